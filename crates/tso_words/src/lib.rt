@@ -2,8 +2,12 @@
 //! machines compute with.
 #![tactic(auto)]
 
+pub mod evaluation;
 pub mod name;
+pub mod operator;
 pub mod value;
 
+pub use evaluation::{eval_cond, eval_op};
 pub use name::{Name, NoMemory, Words};
+pub use operator::{Cond, Op};
 pub use value::{Cell, Chunk, Val};
