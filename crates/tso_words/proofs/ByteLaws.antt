@@ -1,5 +1,5 @@
 -- Laws of the bytes of a value.
-use Rattle.std.proofs.Common.{◌≡◌, ℕ, zero, suc, ◌+◌, ◌*◌, ◌/◌, ◌%◌, ◌^◌, ◌<◌, List, [], ◌∷◌, Some, length, refl, ap, arith}
+use Rattle.std.proofs.Common.{◌≡◌, ℕ, zero, suc, ◌+◌, ◌*◌, ◌/◌, ◌%◌, ◌^◌, ◌<◌, List, [], ◌∷◌, ◌++◌, take, Some, length, refl, ap, arith}
 use Rattle.std.specs.List.{AllByRecursion}
 use Rattle.tso_words.specs.declared.value.Val.{Val}
 use Rattle.tso_words.specs.declared.value.Val.TheVariants.{Undef, Word}
@@ -19,6 +19,14 @@ length-bytes_from v i (suc n) = ap suc (length-bytes_from v (suc i) n)
 -- as many cells as the chunk has bytes
 pub length-bytes_of : (c : Chunk) (v : Val) → length (bytes_of c v) ≡ chunk_size c
 length-bytes_of c v = length-bytes_from v 0 (chunk_size c)
+
+-- the code's four cells begin with the bytes of the chunk
+pub take-bytes_of : (c : Chunk) (v : Val) (rest : List Cell) → take (chunk_size c) (bytes_of c v ++ rest) ≡ bytes_of c v
+take-bytes_of I8s v rest = refl
+take-bytes_of I8u v rest = refl
+take-bytes_of I16s v rest = refl
+take-bytes_of I16u v rest = refl
+take-bytes_of I32 v rest = refl
 
 low_byte : (w : ℕ) → w / 1 % 256 + 256 * 0 ≡ w % 2 ^ 8
 low_byte w = omega arith

@@ -6,9 +6,9 @@ ghost use Rattle.tso_words.specs.Operators.{operate, operate_one, operate_two, c
 use crate::operator::{Cond, Op};
 use crate::value::Val;
 
-/// What the operator answers. `None` is a wrong operation: as many operands as the operator does
-/// not take, a division by 0 or of the least signed number by -1, a count of 32 or more, or a
-/// divisor, dividend or count that is not known.
+/// What the operator answers. `None` is a wrong operation: another number of operands than the
+/// operator takes, a division by 0, a signed one of -2147483648 by -1, a count of 32 or more, or a
+/// dividend, divisor or count that is not known. It allocates nothing.
 pub fn eval_op(op: Op, args: &[Val]) -> Option<Val>
     ensures { result ≡ operate op args.now }
 {

@@ -1,6 +1,6 @@
-//! What the passes use of the definitions: each law is the contract of a function that does
-//! nothing. Proofs of other crates cite the lemmas of `proofs/OperatorLaws`, `ByteLaws` and
-//! `BelowLaws`.
+//! What passes and machines use of the definitions: each law is the contract of a function that does
+//! nothing. A proof of another crate cites the lemma, of `proofs/OperatorLaws.antt`, `ByteLaws.antt`
+//! or `BelowLaws.antt`.
 ghost use Rattle.std.specs.Prelude.{◌≡◌, ◌≢◌, ℕ, List, [], ◌∷◌, map, not, true, Option, Some, IfSome, option_map, length};
 ghost use Rattle.std.specs.List.{AllByRecursion};
 ghost use Rattle.tso_words.specs.declared.value.Val.{Val};
@@ -24,7 +24,8 @@ pub fn written_is_read_as_cast()
 pub fn bytes_and_values_fit()
     ensures size { (c : Chunk) (v : Val) → length (bytes_of c v) ≡ chunk_size c }
     ensures bytes { (c : Chunk) (v : Val) → AllByRecursion IsCell (bytes_of c v) }
-    ensures value { (c : Chunk) (cells : List Cell) → length cells ≡ chunk_size c → AllByRecursion IsCell cells → IsValue (value_of c cells) }
+    ensures value { (c : Chunk) (cells : List Cell) → length cells ≡ chunk_size c
+        → AllByRecursion IsCell cells → IsValue (value_of c cells) }
 {}
 
 /// An operator answers words with a word, if it is not wrong, and values with a value.
@@ -35,7 +36,8 @@ pub fn words_give_words()
 
 /// To cast once more changes nothing.
 pub fn casts_are_idempotent()
-    ensures { (op : Op) (v w : Val) → is_cast op ≡ true → operate op (v ∷ []) ≡ Some w → operate op (w ∷ []) ≡ Some w }
+    ensures { (op : Op) (v w : Val) → is_cast op ≡ true
+        → operate op (v ∷ []) ≡ Some w → operate op (w ∷ []) ≡ Some w }
 {}
 
 /// The negation of a comparison is known where the comparison is, and holds exactly where that
@@ -49,8 +51,11 @@ pub fn negation_holds_otherwise()
 /// Where more is known of the operands, of the value that is written or of the cells that are read,
 /// no less is known of what comes of it; and what is not wrong stays so.
 pub fn more_known_gives_more()
-    ensures operator { (op : Op) (vs ws : List Val) → ValsBelow vs ws → AnswerBelow ValBelow (operate op vs) (operate op ws) }
-    ensures comparison { (c : Cond) (v w v' w' : Val) → ValBelow v v' → ValBelow w w' → AnswerBelow (λ r s. s ≡ r) (compare c v w) (compare c v' w') }
+    ensures operator { (op : Op) (vs ws : List Val) → ValsBelow vs ws
+        → AnswerBelow ValBelow (operate op vs) (operate op ws) }
+    ensures comparison { (c : Cond) (v w v' w' : Val) → ValBelow v v' → ValBelow w w'
+        → AnswerBelow (λ r s. s ≡ r) (compare c v w) (compare c v' w') }
     ensures bytes { (c : Chunk) (v w : Val) → ValBelow v w → CellsBelow (bytes_of c v) (bytes_of c w) }
-    ensures value { (c : Chunk) (cells more : List Cell) → CellsBelow cells more → ValBelow (value_of c cells) (value_of c more) }
+    ensures value { (c : Chunk) (cells more : List Cell) → CellsBelow cells more
+        → ValBelow (value_of c cells) (value_of c more) }
 {}

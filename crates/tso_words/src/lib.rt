@@ -1,5 +1,10 @@
-//! Words, values, chunks of memory, the operator table and names: what every language and both
-//! machines compute with.
+//! Words, values, chunks of memory, the operators and names: what every language of the compiler
+//! and both machines compute with.
+//!
+//! A value is a word of 32 bits or not known. The operators are exact: `eval_op` answers what the
+//! table of `specs/Operators.antt` answers over numbers. A name is seen by contracts as its bytes.
+//! `specs/Below.antt` has the order in which less is known, and `laws` what holds of all these.
+//! Nothing here allocates but the making and cloning of `Name` and `Words`.
 #![tactic(auto)]
 
 pub mod bytes;

@@ -1,10 +1,12 @@
 //! The rows of the operator table at their ends, the bytes of values, and names as keys. The
 //! expected values are worked by hand.
+ghost use Rattle.std.specs.Prelude.{◌≡◌, length};
+ghost use Rattle.tso_words.specs.Words.{chunk_size};
 
 use crate::{
     Cell, Chunk, Cond, Name, Op, Val, Words, bytes_of, eval_cond, eval_op, size_of_chunk, val_of,
 };
-use std::collections::{BTreeMap, HashMap};
+use std::collections::HashMap;
 use std::process::Abort;
 use std::test::Fail;
 
@@ -14,30 +16,56 @@ const LEAST: u32 = 0x8000_0000;
 
 const ONES: u32 = 0xffff_ffff;
 
-fn expect_word(rt: &impl Abort, op: Op, args: &[Val], want: u32) {
-    assert_eq!(rt;
-        eval_op(op, args),
-        Some(Val::Word(want)),
-        "{op:?} of {args:?}"
-    );
+fn expect_answer(rt: &impl Abort, op: Op, args: &[Val], want: Option<Val>) {
+    assert_eq!(rt; eval_op(op, args), want, "{op:?} of {args:?}");
+}
+
+fn expect_each(rt: &impl Abort, ops: &[Op], args: &[Val], want: Option<Val>) {
+    for op in ops {
+        expect_answer(rt, *op, args, want);
+    }
 }
 
 fn expect_two(rt: &impl Abort, op: Op, rows: &[(u32, u32, u32)]) {
     for (a, b, want) in rows {
-        expect_word(rt, op, &[Val::Word(*a), Val::Word(*b)], *want);
+        expect_answer(
+            rt,
+            op,
+            &[Val::Word(*a), Val::Word(*b)],
+            Some(Val::Word(*want)),
+        );
     }
 }
 
 fn expect_one(rt: &impl Abort, op: Op, rows: &[(u32, u32)]) {
     for (a, want) in rows {
-        expect_word(rt, op, &[Val::Word(*a)], *want);
+        expect_answer(rt, op, &[Val::Word(*a)], Some(Val::Word(*want)));
     }
 }
 
-fn expect_wrong(rt: &impl Abort, op: Op, rows: &[(u32, u32)]) {
+fn expect_wrong(rt: &impl Abort, ops: &[Op], rows: &[(u32, u32)]) {
     for (a, b) in rows {
-        let args = [Val::Word(*a), Val::Word(*b)];
-        assert_eq!(rt; eval_op(op, &args), None, "{op:?} of {args:?}");
+        expect_each(rt, ops, &[Val::Word(*a), Val::Word(*b)], None);
+    }
+}
+
+fn expect_cond(rt: &impl Abort, c: Cond, a: Val, b: Val, want: Option<bool>) {
+    assert_eq!(rt; eval_cond(c, a, b), want, "{c:?}");
+}
+
+fn expect_bytes(rt: &impl Abort, c: Chunk, v: Val, want: [Cell; 4]) {
+    assert_eq!(rt; bytes_of(c, v), want, "{c:?}");
+}
+
+fn expect_value(rt: &impl Abort, c: Chunk, cells: &[Cell], want: Val)
+    requires { length cells.now ≡ chunk_size c }
+{
+    assert_eq!(rt; val_of(c, cells), want, "{c:?}");
+}
+
+fn expect_sizes(rt: &impl Abort, rows: &[(Chunk, u32)]) {
+    for (c, want) in rows {
+        assert_eq!(rt; size_of_chunk(*c), *want);
     }
 }
 
@@ -286,76 +314,58 @@ fn comparisons_are_signed_or_unsigned(rt: HostRuntime) {
 
 #[test]
 fn wrong_operations(rt: HostRuntime) {
-    for op in [Op::DivS, Op::ModS] {
-        expect_wrong(&rt, op, &[(1, 0), (0, 0), (LEAST, 0), (LEAST, ONES)]);
-    }
-    for op in [Op::DivU, Op::ModU] {
-        expect_wrong(&rt, op, &[(1, 0), (0, 0), (ONES, 0)]);
-    }
-    for op in [Op::Shl, Op::ShrS, Op::ShrU] {
-        expect_wrong(&rt, op, &[(1, 32), (0, 32), (1, ONES)]);
-    }
-    let word = Val::Word(1);
-    for op in [Op::Add, Op::DivU, Op::Shl, Op::Cmp(Cond::Eq)] {
-        assert_eq!(rt; eval_op(op, &[word]), None, "{op:?} of one");
-    }
-    for op in [Op::Neg, Op::Not, Op::Cast8s, Op::Cast16u] {
-        assert_eq!(rt; eval_op(op, &[word, word]), None, "{op:?} of two");
-    }
-    for op in [Op::Neg, Op::Add] {
-        assert_eq!(rt; eval_op(op, &[]), None, "{op:?} of none");
-        assert_eq!(rt; eval_op(op, &[word, word, word]), None, "{op:?} of three");
-    }
+    let signed = [Op::DivS, Op::ModS];
+    expect_wrong(&rt, &signed, &[(1, 0), (0, 0), (LEAST, 0), (LEAST, ONES)]);
+    expect_wrong(&rt, &[Op::DivU, Op::ModU], &[(1, 0), (0, 0), (ONES, 0)]);
+    expect_wrong(
+        &rt,
+        &[Op::Shl, Op::ShrS, Op::ShrU],
+        &[(1, 32), (0, 32), (1, ONES)],
+    );
 }
 
 #[test]
-fn operands_that_are_not_known(rt: HostRuntime) {
-    let (word, undef) = (Val::Word(1), Val::Undef);
-    let pairs = [[undef, word], [word, undef], [undef, undef]];
-    for args in &pairs {
-        for op in [
-            Op::Add,
-            Op::Sub,
-            Op::Mul,
-            Op::And,
-            Op::Or,
-            Op::Xor,
-            Op::Cmp(Cond::LeU),
-        ] {
-            assert_eq!(rt; eval_op(op, args), Some(Val::Undef), "{op:?} of {args:?}");
-        }
-        for op in [Op::DivS, Op::ModS, Op::DivU, Op::ModU] {
-            assert_eq!(rt; eval_op(op, args), None, "{op:?} of {args:?}");
-        }
-        assert_eq!(rt; eval_cond(Cond::Eq, args[0], args[1]), None);
-    }
-    for op in [Op::Shl, Op::ShrS, Op::ShrU] {
-        assert_eq!(rt;
-            eval_op(op, &[undef, Val::Word(31)]),
-            Some(Val::Undef),
-            "{op:?}"
-        );
-        assert_eq!(rt; eval_op(op, &[undef, Val::Word(32)]), None, "{op:?}");
-        assert_eq!(rt; eval_op(op, &[word, undef]), None, "{op:?}");
-    }
-    for op in [
+fn operands_are_counted(rt: HostRuntime) {
+    let one = [
         Op::Neg,
         Op::Not,
         Op::Cast8s,
         Op::Cast8u,
         Op::Cast16s,
         Op::Cast16u,
-    ] {
-        assert_eq!(rt; eval_op(op, &[undef]), Some(Val::Undef), "{op:?}");
+    ];
+    let two = [Op::Add, Op::DivU, Op::Shl, Op::Cmp(Cond::Eq)];
+    expect_each(&rt, &one, &[], None);
+    expect_each(&rt, &one, &[Val::Word(1), Val::Word(1)], None);
+    expect_each(&rt, &two, &[Val::Undef], None);
+    expect_each(&rt, &two, &[Val::Word(1), Val::Word(1), Val::Word(1)], None);
+    expect_each(&rt, &one, &[Val::Undef], Some(Val::Undef));
+}
+
+#[test]
+fn operands_that_are_not_known(rt: HostRuntime) {
+    let total = [
+        Op::Add,
+        Op::Sub,
+        Op::Mul,
+        Op::And,
+        Op::Or,
+        Op::Xor,
+        Op::Cmp(Cond::LeU),
+    ];
+    let divisions = [Op::DivS, Op::ModS, Op::DivU, Op::ModU];
+    let shifts = [Op::Shl, Op::ShrS, Op::ShrU];
+    let (word, undef) = (Val::Word(1), Val::Undef);
+    for args in &[[undef, word], [word, undef], [undef, undef]] {
+        expect_each(&rt, &total, args, Some(undef));
+        expect_each(&rt, &divisions, args, None);
+        expect_cond(&rt, Cond::Eq, args[0], args[1], None);
     }
-    assert_eq!(rt;
-        eval_cond(Cond::LtS, Val::Word(ONES), Val::Word(0)),
-        Some(true)
-    );
-    assert_eq!(rt;
-        eval_cond(Cond::LtS.negate(), Val::Word(ONES), Val::Word(0)),
-        Some(false)
-    );
+    expect_each(&rt, &shifts, &[undef, Val::Word(31)], Some(undef));
+    expect_each(&rt, &shifts, &[undef, Val::Word(32)], None);
+    expect_each(&rt, &shifts, &[word, undef], None);
+    expect_cond(&rt, Cond::LtS, Val::Word(ONES), word, Some(true));
+    expect_cond(&rt, Cond::LtS.negate(), Val::Word(ONES), word, Some(false));
 }
 
 #[test]
@@ -368,55 +378,46 @@ fn bytes_are_little_endian(rt: HostRuntime) {
         Cell::Byte(0x12),
     );
     let blank = Cell::Blank;
-    for c in [Chunk::I8s, Chunk::I8u] {
-        assert_eq!(rt; size_of_chunk(c), 1);
-        assert_eq!(rt; bytes_of(c, word), [b0, blank, blank, blank]);
-        assert_eq!(rt; val_of(c, &[blank]), Val::Undef);
-    }
-    for c in [Chunk::I16s, Chunk::I16u] {
-        assert_eq!(rt; size_of_chunk(c), 2);
-        assert_eq!(rt; bytes_of(c, word), [b0, b1, blank, blank]);
-        assert_eq!(rt; val_of(c, &[b0, blank]), Val::Undef);
-    }
-    assert_eq!(rt; size_of_chunk(Chunk::I32), 4);
-    assert_eq!(rt; bytes_of(Chunk::I32, word), [b0, b1, b2, b3]);
-    assert_eq!(rt;
-        bytes_of(Chunk::I32, Val::Undef),
-        [blank, blank, blank, blank]
+    expect_sizes(
+        &rt,
+        &[
+            (Chunk::I8s, 1),
+            (Chunk::I8u, 1),
+            (Chunk::I16s, 2),
+            (Chunk::I16u, 2),
+            (Chunk::I32, 4),
+        ],
     );
-    assert_eq!(rt; val_of(Chunk::I8s, &[b0]), Val::Word(0xffff_fff6));
-    assert_eq!(rt; val_of(Chunk::I8u, &[b0]), Val::Word(0xf6));
-    assert_eq!(rt; val_of(Chunk::I16s, &[b0, b1]), Val::Word(0xffff_85f6));
-    assert_eq!(rt; val_of(Chunk::I16u, &[b0, b1]), Val::Word(0x85f6));
-    assert_eq!(rt; val_of(Chunk::I32, &[b0, b1, b2, b3]), word);
-    assert_eq!(rt; val_of(Chunk::I32, &[b0, b1, blank, b3]), Val::Undef);
-}
-
-#[test]
-fn names_and_words_are_their_lists(rt: HostRuntime) -> Result<(), Fail> {
-    let main = Name::made(rt.alloc(), b"main")?;
-    let other = Name::made(rt.alloc(), b"mail")?;
-    assert_eq!(rt; main.bytes(), b"main".as_slice());
-    assert_eq!(rt; main, main.clone()?);
-    assert_ne!(rt; main, other);
-    assert!(rt; other < main);
-    let words = Words::made(rt.alloc(), &[1, 0, ONES])?;
-    assert_eq!(rt; words.list(), [1, 0, ONES].as_slice());
-    assert_eq!(rt; words, words.clone()?);
-    Ok(())
+    expect_bytes(&rt, Chunk::I8s, word, [b0, blank, blank, blank]);
+    expect_bytes(&rt, Chunk::I16u, word, [b0, b1, blank, blank]);
+    expect_bytes(&rt, Chunk::I32, word, [b0, b1, b2, b3]);
+    expect_bytes(&rt, Chunk::I32, Val::Undef, [blank, blank, blank, blank]);
+    expect_value(&rt, Chunk::I8s, &[b0], Val::Word(0xffff_fff6));
+    expect_value(&rt, Chunk::I8u, &[b0], Val::Word(0xf6));
+    expect_value(&rt, Chunk::I8u, &[blank], Val::Undef);
+    expect_value(&rt, Chunk::I16s, &[b0, b1], Val::Word(0xffff_85f6));
+    expect_value(&rt, Chunk::I16u, &[b0, b1], Val::Word(0x85f6));
+    expect_value(&rt, Chunk::I16s, &[b0, blank], Val::Undef);
+    expect_value(&rt, Chunk::I32, &[b0, b1, b2, b3], word);
+    expect_value(&rt, Chunk::I32, &[b0, b1, blank, b3], Val::Undef);
 }
 
 #[test]
 fn names_are_keys(rt: HostRuntime) -> Result<(), Fail> {
     let main = Name::made(rt.alloc(), b"main")?;
     let other = Name::made(rt.alloc(), b"mail")?;
-    let mut hashed = HashMap::new(rt.alloc());
-    hashed.insert(main.clone()?, 3)?;
-    assert_eq!(rt; hashed.get(&main).copied(), Some(3));
-    assert_eq!(rt; hashed.get(&other).copied(), None);
-    let mut sorted = BTreeMap::new(rt.alloc());
-    sorted.insert(main.clone()?, 3)?;
-    assert_eq!(rt; sorted.get(&main).copied(), Some(3));
-    assert_eq!(rt; sorted.get(&other).copied(), None);
+    assert!(rt; other < main);
+    let mut places = HashMap::new(rt.alloc());
+    places.insert(main.clone()?, 3)?;
+    assert_eq!(rt; places.get(&main).copied(), Some(3));
+    assert_eq!(rt; places.get(&other).copied(), None);
+    Ok(())
+}
+
+#[test]
+fn words_are_their_list(rt: HostRuntime) -> Result<(), Fail> {
+    let words = Words::made(rt.alloc(), &[1, 0, ONES])?;
+    assert_eq!(rt; words.list(), [1, 0, ONES].as_slice());
+    assert!(rt; words == words.clone()?);
     Ok(())
 }
