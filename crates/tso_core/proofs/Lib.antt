@@ -1,0 +1,5 @@
+pub mod Pieces
+pub mod Runs
+pub mod Compose
+pub mod Tied
+pub mod Literally

@@ -1,6 +1,9 @@
 //! Steps and events of machines, and what it is that one machine shows no more than another.
 #![tactic(auto)]
 
+pub mod laws;
+pub mod traced;
+
 /// One atomic step of a machine.
 #[derive(Clone, Copy, PartialEq, Eq, Debug)]
 pub enum Step {
