@@ -2,6 +2,8 @@
 //! machines compute with.
 #![tactic(auto)]
 
+pub mod name;
 pub mod value;
 
+pub use name::{Name, NoMemory, Words};
 pub use value::{Cell, Chunk, Val};
