@@ -2,4 +2,5 @@ pub mod Pieces
 pub mod Runs
 pub mod Compose
 pub mod Tied
+pub mod Lifted
 pub mod Literally
