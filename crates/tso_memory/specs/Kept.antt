@@ -1,0 +1,40 @@
+-- What the fields of a memory stand for. The cells are kept in pages, an entry for each page number; a cell that no store or new object has touched has what its object began with.
+use Rattle.std.specs.Prelude.{◌≡◌, ◌≢◌, ℕ, ◌+◌, ◌-◌, ◌*◌, ◌/◌, ◌%◌, ◌<◌, ◌≤◌, List, length, Option, Some, None, slice_get, slice_index_or, if◌then◌else◌}
+use Rattle.std.specs.Option.{unwrap_or}
+use Rattle.tso_words.specs.declared.value.Cell.{Cell}
+use Rattle.tso_words.specs.declared.value.Cell.TheVariants.{Blank, Byte}
+use Rattle.tso_memory.specs.declared.object.Object.{Object}
+use Rattle.tso_memory.specs.Memory.{MemoryMeaning, is_live}
+
+-- pages of 16,384 cells: for each page number the place of its page, and the pages one after another
+pub record Pages : Type 0 where
+  pub table : List (Option ℕ)
+  pub cells : List (Option Cell)
+  -- a page more needs no memory
+  pub spare : ℕ
+
+-- the cell in a page
+abbrev pub cell_in : List (Option Cell) → Option ℕ → ℕ → Option Cell
+cell_in cells None offset = None
+cell_in cells (Some page) offset = slice_index_or cells (page * 16384 + offset) None
+
+-- the cell that was written at an address, if one was
+abbrev pub written_at : Pages → ℕ → Option Cell
+written_at p x = cell_in p.cells (slice_index_or p.table (x / 16384) None) (x % 16384)
+
+-- a memory as its fields keep it
+pub record Kept : Type 0 where
+  pub objects : List Object
+  -- those that began with zeros
+  pub zeroed : List Object
+  pub pages : Pages
+  -- with 1 the next change needs no memory
+  pub spare : ℕ
+
+-- the cell of an address in a live object
+abbrev pub kept_at : Kept → ℕ → Cell
+kept_at k x = unwrap_or (written_at k.pages x) (if is_live k.zeroed x then Byte 0 else Blank)
+
+-- what it means
+abbrev pub memory_of : Kept → MemoryMeaning
+memory_of k = record { objects = k.objects; cells = λ x. if is_live k.objects x then kept_at k x else Blank }

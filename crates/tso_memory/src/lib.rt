@@ -1,0 +1,10 @@
+//! The memory of both machines: live objects with their cells, store buffers, and the view that a
+//! thread has of memory through its own buffer.
+#![tactic(auto)]
+
+pub mod buffer;
+pub mod object;
+mod pages;
+
+pub use buffer::Item;
+pub use object::{Kind, Object};

@@ -1,0 +1,1 @@
+//! Cells in pages.
