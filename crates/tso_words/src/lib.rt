@@ -4,6 +4,7 @@
 
 pub mod bytes;
 pub mod evaluation;
+pub mod laws;
 pub mod name;
 pub mod operator;
 pub mod value;
