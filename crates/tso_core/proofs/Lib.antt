@@ -4,3 +4,4 @@ pub mod Compose
 pub mod Tied
 pub mod Lifted
 pub mod Literally
+pub mod Monotone
