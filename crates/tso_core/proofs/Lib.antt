@@ -5,3 +5,4 @@ pub mod Tied
 pub mod Lifted
 pub mod Literally
 pub mod Monotone
+pub mod Simulated

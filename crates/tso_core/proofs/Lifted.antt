@@ -16,7 +16,7 @@ use Rattle.tso_core.specs.Matching.{SaysSame, IsPrefixOf, Alike}
 use Rattle.tso_core.specs.Refinement.{SameRequest, Ends, Refines}
 use Rattle.tso_core.specs.Ties.{Answers, ComesToStart, IsMachineTie}
 use Rattle.tso_core.specs.Threads.{status_of, Effect, Refused, Goes, Stops, Spawns, Base, Lang, Offered, Silent, Fails, Does, MachineOf, with_thread, begun, finished, acted, ran, drained, step_of, calls_at, start_offered, starts_at, asks_offered, asks_at, threaded, silents, AreSilent, ReachesWrong}
-use Rattle.tso_core.specs.ThreadTies.{Orders, Kept, IsWrongAt, StopsSo, EffectBelow, IsMonotone, Meets, FollowsSilently, ThreadSimulation}
+use Rattle.tso_core.specs.ThreadTies.{Orders, Kept, IsWrongAt, StopsSo, EffectBelow, IsMonotone, Meets, FollowsSilently, IsThreadTie}
 use Rattle.tso_core.proofs.Runs.{after-append, shown-append, joins_run}
 use Rattle.tso_core.proofs.Tied.{tie_refines, last-append}
 use Rattle.tso_core.proofs.Pieces.{runs_of-append}
@@ -175,7 +175,7 @@ reps_same : (n i : ℕ) → runs_of i (reps n i) ≡ n
 reps_same zero i = refl
 reps_same (suc n) i = omega (arith, ap (λ x. (if x then 1 else 0) + runs_of i (reps n i)) (eq-eqb i i refl), reps_same n i)
 
-module _ (b : Base) (o : Orders b) (mono : IsMonotone b o) {T U : Type 0} (p : Lang b T) (q : Lang b U) (R : Places → T → U → ℕ → Type 0) (bound : ℕ) (tie : ThreadSimulation b o p q R bound) where
+module _ (b : Base) (o : Orders b) (mono : IsMonotone b o) {T U : Type 0} (p : Lang b T) (q : Lang b U) (R : Places → T → U → ℕ → Type 0) (bound : ℕ) (tie : IsThreadTie b o p q R bound) where
   abbrev P : System
   P = threaded b p
 

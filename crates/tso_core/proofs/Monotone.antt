@@ -6,13 +6,12 @@ use Rattle.std.proofs.lemmas.Bool.{eq-eqb, leb-true, ltb-true}
 use Rattle.tso_words.specs.declared.value.Val.{Val}
 use Rattle.tso_words.specs.declared.value.Val.TheVariants.{Undef, Word}
 use Rattle.tso_words.specs.declared.value.Cell.{Cell}
-use Rattle.tso_words.specs.declared.value.Cell.TheVariants.{Blank, Byte}
+use Rattle.tso_words.specs.declared.value.Cell.TheVariants.{Blank}
 use Rattle.tso_words.specs.declared.value.Chunk.{Chunk}
 use Rattle.tso_words.specs.declared.value.Chunk.TheVariants.{I32}
 use Rattle.tso_words.specs.declared.operator.Op.TheVariants as W
 use Rattle.tso_words.specs.declared.operator.Cond.TheVariants as C
-use Rattle.tso_words.specs.Words.{chunk_size, byte_of, value_of}
-use Rattle.tso_words.specs.Operators.{operate, compare}
+use Rattle.tso_words.specs.Words.{chunk_size, byte_of}
 use Rattle.tso_words.specs.Below.{ValBelow, CellBelow, CellsBelow}
 use Rattle.tso_words.specs.Below as Known
 use Rattle.tso_words.proofs.BelowLaws.{ValBelow_refl, CellBelow_refl, value_of-below, operate-below, compare-below}
@@ -26,15 +25,14 @@ use Rattle.tso_core.specs.declared.offer.Atomic.{Atomic}
 use Rattle.tso_core.specs.declared.offer.Atomic.TheVariants as A
 use Rattle.tso_core.specs.declared.offer.Offer.{Offer}
 use Rattle.tso_core.specs.declared.offer.Offer.TheVariants as O
-use Rattle.tso_core.specs.declared.offer.Answer.{Answer}
 use Rattle.tso_core.specs.declared.offer.Answer.TheVariants.{Nothing, Value}
 use Rattle.tso_core.specs.declared.offer.Now.{Now}
 use Rattle.tso_core.specs.declared.offer.Now.TheVariants as N
 use Rattle.tso_core.specs.Threads.{Refused, Goes, Stops, Spawns}
 use Rattle.tso_core.specs.ThreadTies.{Kept, IsWrongAt, EffectBelow, IsMonotone}
 use Rattle.tso_core.specs.Language.{Takes}
-use Rattle.tso_core.specs.Shared.{Shared, Eff, items_or_none, buffer_of, holds_put, heap_at, block_size, is_block_allowed, block, compared, exchanged, failed, wrong, pushed, if_empty, when, answered, stored, swapped, swapped_at, given_at, given, freed, freed_at, exited, spawned, effect_of, put_on, drained_by, is_start, asked, shared_part}
-use Rattle.tso_core.specs.Below.{MemoryBelow, ItemBelow, PutBelow, PlaceSame, LiftSame, ItemsBelow, SharedBelow, OfferBelow, LoadBelow, StoreBelow, AtomicBelow, MallocBelow, FreeBelow, StartBelow, ExitBelow, SameOffer, AnswersBelow, AnswerBelow, orders}
+use Rattle.tso_core.specs.Shared.{Shared, Eff, items_or_none, buffer_of, holds_put, heap_at, block_size, is_block_allowed, block, compared, exchanged, failed, wrong, pushed, if_empty, when, answered, stored, swapped, swapped_at, given, freed, freed_at, spawned, effect_of, put_on, drained_by, is_start, shared_part}
+use Rattle.tso_core.specs.Below.{MemoryBelow, ItemBelow, PutBelow, PlaceSame, LiftSame, ItemsBelow, SharedBelow, OfferBelow, LoadBelow, StoreBelow, AtomicBelow, MallocBelow, FreeBelow, StartBelow, ExitBelow, SameOffer, AnswerBelow, orders}
 
 -- lists related element by element
 all_set : {A B : Type 0} (R : A → B → Type 0) (xs : List A) (ys : List B) (i : ℕ) (x : A) (y : B) → R x y → AllZip R xs ys → AllZip R (slice_set xs i x) (slice_set ys i y)

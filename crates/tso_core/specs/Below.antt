@@ -1,5 +1,5 @@
 -- What of one machine's shared part may be less known than in another's: Undef may become any word, and a blank cell any byte (after the "less defined" of CompCert's values). Everything else is equal.
-use Rattle.std.specs.Prelude.{◌≡◌, ◌≢◌, ℕ, List, Bool}
+use Rattle.std.specs.Prelude.{◌≡◌, ◌≢◌, ℕ, List}
 use Rattle.std.specs.List.{AllZip}
 use Rattle.tso_words.specs.declared.value.Val.{Val}
 use Rattle.tso_words.specs.declared.value.Chunk.{Chunk}

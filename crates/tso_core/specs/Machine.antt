@@ -1,5 +1,5 @@
 -- The machine over a thread language, as a system whose runs refinement speaks of.
-use Rattle.std.specs.Prelude.{ℕ, Option, Some, None}
+use Rattle.std.specs.Prelude.{Option, Some, None}
 use Rattle.tso_core.specs.declared.Step.{Step}
 use Rattle.tso_core.specs.declared.Event.{Event}
 use Rattle.tso_core.specs.declared.offer.Offer.{Offer}

@@ -1,7 +1,6 @@
 -- Proper placements and the opening of a machine (an address map of this project: functions from 0x08000000, globals from 0x20000000 on).
 use Rattle.std.specs.Prelude.{◌≡◌, ℕ, ◌+◌, ◌-◌, ◌%◌, ◌≤◌, false, List, [], ◌∷◌, Contains, AllPairs, All, IsSomeAnd, ◌⊎◌, fold, if◌then◌else◌, slice_index_or}
 use Rattle.tso_words.specs.declared.value.Cell.TheVariants.{Blank, Byte}
-use Rattle.tso_memory.specs.declared.object.Object.{Object}
 use Rattle.tso_memory.specs.declared.object.Kind.TheVariants.{Static}
 use Rattle.tso_memory.specs.Memory.{MemoryMeaning, is_in, inserted}
 use Rattle.tso_core.specs.declared.offer.Now.TheVariants as N

@@ -1,4 +1,4 @@
--- A simulation of threads: two programs of two thread languages over one shared part (after the thread simulations of CompCertTSO; here the second program is answered by the first, and Undef of the first may be any word of the second).
+-- A tie of threads: two programs of two thread languages over one shared part, of which less may be known in the first (after the thread simulations of CompCertTSO; here the second program is answered by the first).
 use Rattle.std.specs.Prelude.{◌≡◌, ◌≢◌, ℕ, ◌<◌, ◌≤◌, true, false, Option, Some, None, ◌⊎◌}
 use Rattle.tso_core.specs.declared.offer.Now.TheVariants as N
 use Rattle.tso_core.specs.Systems.{Names, Places}
@@ -69,8 +69,8 @@ module _ (b : Base) (o : Orders b) where
       pub related : R at (silents b p at t count) (q.resume at u None) number
       pub counted : count ≡ 0 → n < number
 
-    -- the relation is a simulation of the threads; its numbers count the Silent steps of the second in a row without one of the first
-    pub record ThreadSimulation (bound : ℕ) : Type 0 where
+    -- the relation ties the threads; its numbers count the Silent steps of the second in a row without one of the first
+    pub record IsThreadTie (bound : ℕ) : Type 0 where
       pub globals : SaysSame p.globals q.globals
       pub stated : (f : Names) → SaysSame (p.stated f) (q.stated f)
       pub labels_proper : (at : Places) → q.IsProper at → p.IsProper at
