@@ -6,3 +6,4 @@ pub mod Lifted
 pub mod Literally
 pub mod Monotone
 pub mod Simulated
+pub mod Copies

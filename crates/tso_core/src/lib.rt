@@ -3,6 +3,7 @@
 //! composition.
 #![tactic(auto)]
 
+pub mod language;
 pub mod laws;
 pub mod offer;
 pub mod placement;

@@ -4,6 +4,7 @@
 ghost use Rattle.std.specs.Prelude.{◌≡◌, ◌≤◌, vec_len};
 ghost use Rattle.tso_core.specs.Placing.{address_of, NamesDiffer};
 
+use std::alloc::AllocError;
 use std::marker::Model;
 use tso_words::Name;
 
@@ -19,11 +20,40 @@ pub struct Global {
     ghost start_fits: { vec_len start ≤ size },
 }
 
+impl Clone for Global {
+    ghost use Rattle.tso_core.specs.Stated.{object_of};
+
+    ghost is_clone = { λ g copy. object_of copy ≡ object_of g };
+
+    fn clone(&self) -> Result<Global, AllocError> {
+        let name = self.name.clone()?;
+        let start = self.start.clone()?;
+        Ok(Global {
+            name,
+            size: self.size,
+            align: self.align,
+            start,
+        })
+    }
+}
+
 /// The defined functions and the globals of a program, in order.
 #[derive(Drop)]
 pub struct Globals {
     pub functions: Vec<Name>,
     pub objects: Vec<Global>,
+}
+
+impl Clone for Globals {
+    ghost use Rattle.tso_core.specs.Stated.{globals_of};
+
+    ghost is_clone = { λ g copy. globals_of copy ≡ globals_of g };
+
+    fn clone(&self) -> Result<Globals, AllocError> {
+        let functions = self.functions.clone()?;
+        let objects = self.objects.clone()?;
+        Ok(Globals { functions, objects })
+    }
 }
 
 /// The room of one function of a program, in any of the languages. `nodes` is the number of nodes
