@@ -4,7 +4,6 @@ use Rattle.std.specs.Prelude.{if◌then◌else◌, ◌==◌, slice_get, slice_se
 use Rattle.std.proofs.lemmas.List.{append-nil, set-set, length-set}
 use Rattle.std.proofs.lemmas.Option.{slice_get_within}
 use Rattle.std.proofs.lemmas.Bool.{eq-eqb, ne_eqb}
-use Rattle.std.proofs.lemmas.Bool.Decides.{eqb_tells}
 use Rattle.std.proofs.Math.Dec.{eqb}
 use Rattle.tso_core.specs.declared.Step.{Step}
 use Rattle.tso_core.specs.declared.Step.TheVariants.{Run, Drain}
@@ -18,47 +17,12 @@ use Rattle.tso_core.specs.Ties.{Answers, ComesToStart, IsMachineTie}
 use Rattle.tso_core.specs.Threads.{status_of, Effect, Refused, Goes, Stops, Spawns, Base, Lang, Offered, Silent, Fails, Does, MachineOf, with_thread, begun, finished, acted, ran, drained, step_of, calls_at, start_offered, starts_at, asks_offered, asks_at, threaded, silents, AreSilent, ReachesWrong}
 use Rattle.tso_core.specs.ThreadTies.{Orders, Kept, IsWrongAt, StopsSo, EffectBelow, IsMonotone, Meets, FollowsSilently, IsThreadTie}
 use Rattle.tso_core.proofs.Runs.{after-append, shown-append, joins_run}
+use Rattle.tso_core.proofs.Lists.{none_some, get_set, get_set_other, set_get, get_some, get_append, dec_eq}
 use Rattle.tso_core.proofs.Tied.{tie_refines, last-append}
 use Rattle.tso_core.proofs.Pieces.{runs_of-append}
 
 none_enabled : false ≡ true → ⊥
 none_enabled e = cc
-
--- lists
-none_some : {A : Type 0} (x : A) → None ≡ Some x → ⊥
-none_some x e = cc
-
-get_set : {A : Type 0} (xs : List A) (i : ℕ) (x y : A) → slice_get xs i ≡ Some y → slice_get (slice_set xs i x) i ≡ Some x
-get_set [] i x y e = absurd (none_some y e)
-get_set (z ∷ xs) zero x y e = refl
-get_set (z ∷ xs) (suc i) x y e = get_set xs i x y e
-
-get_set_other : {A : Type 0} (xs : List A) (i j : ℕ) (x : A) → (j ≡ i → ⊥) → slice_get (slice_set xs i x) j ≡ slice_get xs j
-get_set_other [] i j x h = refl
-get_set_other (z ∷ xs) zero zero x h = absurd (h refl)
-get_set_other (z ∷ xs) zero (suc j) x h = refl
-get_set_other (z ∷ xs) (suc i) zero x h = refl
-get_set_other (z ∷ xs) (suc i) (suc j) x h = get_set_other xs i j x (λ e. h (ap suc e))
-
-set_get : {A : Type 0} (xs : List A) (i : ℕ) (x : A) → slice_get xs i ≡ Some x → slice_set xs i x ≡ xs
-set_get [] i x e = absurd (none_some x e)
-set_get (z ∷ xs) zero x e = let f : x ≡ z = cc in ap (λ y. y ∷ xs) f
-set_get (z ∷ xs) (suc i) x e = ap (λ l. z ∷ l) (set_get xs i x e)
-
-get_some : {A : Type 0} (xs : List A) (i : ℕ) → i < length xs → (x : A) × (slice_get xs i ≡ Some x)
-get_some [] i h = absurd (omega arith)
-get_some (z ∷ xs) zero h = (z, refl)
-get_some (z ∷ xs) (suc i) h = let lt : i < length xs = omega arith in get_some xs i lt
-
-get_append : {A : Type 0} (xs : List A) (x : A) (j : ℕ) (y : A) → slice_get (xs ++ x ∷ []) j ≡ Some y → (slice_get xs j ≡ Some y) ⊎ ((j ≡ length xs) × (x ≡ y))
-get_append [] x zero y e = let f : x ≡ y = cc in inr (refl, f)
-get_append [] x (suc j) y e = absurd (none_some y e)
-get_append (z ∷ xs) x zero y e = inl e
-get_append (z ∷ xs) x (suc j) y e = go (get_append xs x j y e)
-  where
-    go : (slice_get xs j ≡ Some y) ⊎ ((j ≡ length xs) × (x ≡ y)) → (slice_get xs j ≡ Some y) ⊎ ((suc j ≡ suc (length xs)) × (x ≡ y))
-    go (inl a) = inl a
-    go (inr a) = inr (ap suc a.0, a.1)
 
 -- a way from one state to another, with what it shows
 record Way (m : System) (s : m.State) (xs : List Step) (es : List Event) (u : m.State) : Type 0 where
@@ -143,13 +107,6 @@ both_bools x e f = cc
 -- the numbers, with that of one thread changed
 abbrev numbered : (ℕ → ℕ) → ℕ → ℕ → ℕ → ℕ
 numbered f i n j = if i == j then n else f j
-
-dec_eq : (i j : ℕ) → Dec (j ≡ i)
-dec_eq i j = go (eqb_tells j i)
-  where
-    go : ((eqb j i ≡ true) × (j ≡ i)) ⊎ ((eqb j i ≡ false) × (j ≢ i)) → Dec (j ≡ i)
-    go (inl e) = yes e.1
-    go (inr e) = no e.1
 
 ne_test : (i j : ℕ) → (j ≡ i → ⊥) → eqb i j ≡ false
 ne_test i j h = ne_eqb i j (λ e. h (sym e))
