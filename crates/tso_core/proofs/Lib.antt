@@ -8,3 +8,5 @@ pub mod Literally
 pub mod Monotone
 pub mod Simulated
 pub mod Copies
+pub mod Waiting
+pub mod Places
