@@ -10,3 +10,4 @@ pub mod Simulated
 pub mod Copies
 pub mod Waiting
 pub mod Places
+pub mod Safely

@@ -1,41 +1,23 @@
 -- In a run of a machine no Place meets a live object when it is applied, and each Lift finds its object: what every state of a run keeps.
-use Rattle.std.proofs.Common.{◌≡◌, ◌≢◌, ℕ, zero, suc, ◌+◌, ◌-◌, ◌%◌, ◌<◌, ◌≤◌, List, [], ◌∷◌, ◌++◌, length, refl, sym, ap, ◌∙◌, subst, arith, length-append, Option, Some, None, ◌⊎◌, inl, inr, Bool, true, false, IsSome}
-use Rattle.std.specs.Prelude.{if◌then◌else◌, ◌==◌, ◌&&◌, ◌||◌, not, nat_lt, nat_le, slice_get, slice_set, slice_index_or, fold}
+use Rattle.std.proofs.Common.{◌≡◌, ◌≢◌, ℕ, zero, suc, ◌+◌, ◌%◌, ◌^◌, ◌<◌, ◌≤◌, List, [], ◌∷◌, ◌++◌, length, refl, sym, ap, ◌∙◌, subst, arith, length-append, Option, Some, None, ◌⊎◌, inl, inr, Bool, true, false}
+use Rattle.std.specs.Prelude.{if◌then◌else◌, ◌==◌, ◌&&◌, ◌||◌, not, nat_lt, nat_le, slice_get, slice_set, slice_index_or}
 use Rattle.std.specs.List.{list_any, list_all, filter}
-use Rattle.std.proofs.lemmas.Bool.{eq-eqb, ne_eqb, lt-ltb, ltb-true, leb-true}
+use Rattle.std.proofs.lemmas.Bool.{eq-eqb, ne_eqb, ltb-true, leb-true}
 use Rattle.std.proofs.Math.Dec.{eqb}
 use Rattle.std.proofs.lemmas.List.{length-set}
 use Rattle.std.proofs.lemmas.Option.{slice_get_within}
 use Rattle.std.proofs.lemmas.Map.Views.{any-filter_same}
-use Rattle.tso_words.specs.declared.value.Val.{Val}
-use Rattle.tso_words.specs.declared.value.Val.TheVariants.{Undef, Word}
-use Rattle.tso_words.specs.declared.value.Chunk.{Chunk}
-use Rattle.tso_words.specs.declared.value.Chunk.TheVariants.{I32}
 use Rattle.tso_memory.specs.declared.object.Object.{Object}
-use Rattle.tso_memory.specs.declared.object.Kind.TheVariants.{Static}
 use Rattle.tso_memory.specs.declared.buffer.Item.{Item}
 use Rattle.tso_memory.specs.declared.buffer.Item.TheVariants.{Put, Place, Lift}
-use Rattle.tso_memory.specs.Memory.{MemoryMeaning, is_right, load, put, cells_put, meets, is_met, is_at, inserted, unmet, lifted, removed}
-use Rattle.tso_memory.specs.Buffer.{local, is_lift, is_place, objects_lifted, places_lifted, unplaced, pending_ok, is_in_stacks, is_place_allowed, view, loaded}
-use Rattle.tso_core.specs.declared.Step.{Step}
-use Rattle.tso_core.specs.declared.Step.TheVariants.{Run, Drain}
-use Rattle.tso_core.specs.declared.Event.{Event}
-use Rattle.tso_core.specs.declared.offer.Atomic.{Atomic}
-use Rattle.tso_core.specs.declared.offer.Offer.{Offer}
-use Rattle.tso_core.specs.declared.offer.Offer.TheVariants as O
-use Rattle.tso_core.specs.declared.offer.Answer.{Answer}
-use Rattle.tso_core.specs.declared.offer.Answer.TheVariants.{Nothing, Value}
-use Rattle.tso_core.specs.declared.offer.Now.{Now}
-use Rattle.tso_core.specs.declared.offer.Now.TheVariants as N
-use Rattle.tso_core.specs.Systems.{Names, Places, GlobalsOf, after, IsRun}
-use Rattle.tso_core.specs.Threads.{MachineOf, finished, begun, acted, ran, drained, step_of}
-use Rattle.tso_core.specs.Language.{Language, Takes, IsWithout, IsThread, First, Started, Resumed, RangesAfter, IsLawful}
-use Rattle.tso_core.specs.Shared.{Shared, Eff, items_or_none, buffer_of, is_heap, heap_at, block_size, is_block_allowed, block, exchanged, failed, if_empty, when, answered, stored, swapped, swapped_at, given_at, given, freed, freed_at, exited, spawned, effect_of, put_on, drained_by, shared_part}
-use Rattle.tso_core.specs.Runs.{with_global, opening_memory, opening}
-use Rattle.tso_core.specs.Machine.{offered, lang_of, MachineState, open_machine}
-use Rattle.tso_core.specs.Locals.{IsSafe, AreSafe}
+use Rattle.tso_memory.specs.Memory.{meets, is_met, is_at, inserted, unmet, lifted, removed}
+use Rattle.tso_memory.specs.Buffer.{local, is_lift, objects_lifted, places_lifted, unplaced, pending_ok, is_in_stacks, is_place_allowed}
+use Rattle.tso_core.specs.Systems.{Places}
+use Rattle.tso_core.specs.Language.{Language, IsThread}
+use Rattle.tso_core.specs.Shared.{items_or_none, is_heap, heap_at}
+use Rattle.tso_core.specs.Locals.{IsSafe}
 use Rattle.tso_core.proofs.Lists.{none_some, get_set, get_set_other, set_get, get_some, get_append, dec_eq}
-use Rattle.tso_core.proofs.Waiting.{Range, both, joined_true, either, or_right, not_true, not_false, opposed, same_number, is_same, bit, count, same_self, same_is, count_without, Plays, plays_put, plays_place, plays_lift, meets_sym, meets_self, Clear, clear_fewer, clear_more, clear_put, clear_lift, clear_place, Apart, apart_none, apart_rest, apart_behind, apart_place_behind, apart_put, apart_lift, apart_place, Stacked, stacked_put, stacked_lift, stacked_place, stacked_unplaced}
+use Rattle.tso_core.proofs.Waiting.{Range, both, joined_true, either, or_right, not_true, not_false, opposed, same_number, count, same_self, same_is, Plays, Clear, Apart, apart_rest, Stacked}
 
 -- lists of objects
 or_swap : (a b c : Bool) → (a || (b || c)) ≡ (b || (a || c))
@@ -48,7 +30,7 @@ and_swap true b c = refl
 and_swap false true c = refl
 and_swap false false c = refl
 
-any_inserted : (p : Object → Bool) (o : Object) (os : List Object) → list_any p (inserted o os) ≡ (p o || list_any p os)
+pub any_inserted : (p : Object → Bool) (o : Object) (os : List Object) → list_any p (inserted o os) ≡ (p o || list_any p os)
 any_inserted p o [] = refl
 any_inserted p o (q ∷ qs) = go (nat_lt q.base o.base) (any_inserted p o qs)
   where
@@ -56,7 +38,7 @@ any_inserted p o (q ∷ qs) = go (nat_lt q.base o.base) (any_inserted p o qs)
     go true e = ap (λ z. p q || z) e ∙ or_swap (p q) (p o) (list_any p qs)
     go false e = refl
 
-all_inserted : (p : Object → Bool) (o : Object) (os : List Object) → list_all p (inserted o os) ≡ (p o && list_all p os)
+pub all_inserted : (p : Object → Bool) (o : Object) (os : List Object) → list_all p (inserted o os) ≡ (p o && list_all p os)
 all_inserted p o [] = refl
 all_inserted p o (q ∷ qs) = go (nat_lt q.base o.base) (all_inserted p o qs)
   where
@@ -64,7 +46,7 @@ all_inserted p o (q ∷ qs) = go (nat_lt q.base o.base) (all_inserted p o qs)
     go true e = ap (λ z. p q && z) e ∙ and_swap (p q) (p o) (list_all p qs)
     go false e = refl
 
-filter_fewer : (p q : Object → Bool) (os : List Object) → list_any p (filter q os) ≡ true → list_any p os ≡ true
+pub filter_fewer : (p q : Object → Bool) (os : List Object) → list_any p (filter q os) ≡ true → list_any p os ≡ true
 filter_fewer p q [] e = e
 filter_fewer p q (o ∷ os) e = go (q o) e (filter_fewer p q os)
   where
@@ -76,7 +58,7 @@ filter_fewer p q (o ∷ os) e = go (q o) e (filter_fewer p q os)
     go true e f = step f (either (p o) (list_any p (filter q os)) e)
     go false e f = or_right (p o) (list_any p os) (f e)
 
-all_filter : (p q : Object → Bool) (os : List Object) → list_all p os ≡ true → list_all p (filter q os) ≡ true
+pub all_filter : (p q : Object → Bool) (os : List Object) → list_all p os ≡ true → list_all p (filter q os) ≡ true
 all_filter p q [] e = e
 all_filter p q (o ∷ os) e = let h = both (p o) (list_all p os) e in go (q o) h.0 (all_filter p q os h.1)
   where
@@ -85,30 +67,30 @@ all_filter p q (o ∷ os) e = let h = both (p o) (list_all p os) e in go (q o) h
     go false e f = f
 
 -- an object with this range is there
-abbrev IsThere : List Object → Range → Type 0
+abbrev pub IsThere : List Object → Range → Type 0
 IsThere os r = list_any (is_at r.0 r.1) os ≡ true
 
-range_of : (o : Object) (r : Range) → is_at r.0 r.1 o ≡ true → (let x : Range = (o.base, o.size) in x) ≡ r
+pub range_of : (o : Object) (r : Range) → is_at r.0 r.1 o ≡ true → (let x : Range = (o.base, o.size) in x) ≡ r
 range_of o r e = same_is (o.base, o.size) r e
 
 -- with the object of a Place, which meets none
-placed_keeps : (os : List Object) (b n : ℕ) → ((r : Range) → IsThere os r → meets r.0 r.1 b n ≡ false) → (r : Range) → IsThere os r → IsThere (inserted (local b n) (unmet b n os)) r
+pub placed_keeps : (os : List Object) (b n : ℕ) → ((r : Range) → IsThere os r → meets r.0 r.1 b n ≡ false) → (r : Range) → IsThere os r → IsThere (inserted (local b n) (unmet b n os)) r
 placed_keeps os b n f r e =
     let kept : list_any (is_at r.0 r.1) (unmet b n os) ≡ list_any (is_at r.0 r.1) os = any-filter_same (is_at r.0 r.1) (λ o. not (is_met b n o)) true (λ o h. not_false (is_met b n o) (ap (λ x. meets x.0 x.1 b n) (range_of o r h) ∙ f r e)) os in
     any_inserted (is_at r.0 r.1) (local b n) (unmet b n os) ∙ or_right (is_at r.0 r.1 (local b n)) (list_any (is_at r.0 r.1) (unmet b n os)) (kept ∙ e)
 
-placed_most : (os : List Object) (b n : ℕ) (r : Range) → IsThere (inserted (local b n) (unmet b n os)) r → IsThere os r ⊎ (r ≡ (b, n))
+pub placed_most : (os : List Object) (b n : ℕ) (r : Range) → IsThere (inserted (local b n) (unmet b n os)) r → IsThere os r ⊎ (r ≡ (b, n))
 placed_most os b n r e = go (either (is_at r.0 r.1 (local b n)) (list_any (is_at r.0 r.1) (unmet b n os)) (sym (any_inserted (is_at r.0 r.1) (local b n) (unmet b n os)) ∙ e))
   where
     go : (is_at r.0 r.1 (local b n) ≡ true) ⊎ (list_any (is_at r.0 r.1) (unmet b n os) ≡ true) → IsThere os r ⊎ (r ≡ (b, n))
     go (inl h) = inr (sym (range_of (local b n) r h))
     go (inr h) = inl (filter_fewer (is_at r.0 r.1) (λ o. not (is_met b n o)) os h)
 
-placed_there : (os : List Object) (b n : ℕ) → IsThere (inserted (local b n) (unmet b n os)) (b, n)
+pub placed_there : (os : List Object) (b n : ℕ) → IsThere (inserted (local b n) (unmet b n os)) (b, n)
 placed_there os b n = any_inserted (is_at b n) (local b n) (unmet b n os) ∙ ap (λ z. z || list_any (is_at b n) (unmet b n os)) (same_self (b, n))
 
 -- without the object of a Lift
-lifted_keeps : (os : List Object) (b n : ℕ) (r : Range) → (r ≢ (b, n)) → IsThere os r → IsThere (lifted b n os) r
+pub lifted_keeps : (os : List Object) (b n : ℕ) (r : Range) → (r ≢ (b, n)) → IsThere os r → IsThere (lifted b n os) r
 lifted_keeps os b n r ne e = any-filter_same (is_at r.0 r.1) (λ o. not (is_at b n o)) true (λ o h. not_false (is_at b n o) (other o h)) os ∙ e
   where
     other : (o : Object) → is_at r.0 r.1 o ≡ true → is_at b n o ≡ false
@@ -118,7 +100,7 @@ lifted_keeps os b n r ne e = any-filter_same (is_at r.0 r.1) (λ o. not (is_at b
         go false f = f
         go true f = absurd (ne (sym (range_of o r h) ∙ range_of o (b, n) f))
 
-lifted_most : (os : List Object) (b n : ℕ) (r : Range) → IsThere (lifted b n os) r → IsThere os r × (r ≢ (b, n))
+pub lifted_most : (os : List Object) (b n : ℕ) (r : Range) → IsThere (lifted b n os) r → IsThere os r × (r ≢ (b, n))
 lifted_most os b n r e = (filter_fewer (is_at r.0 r.1) (λ o. not (is_at b n o)) os e, gone)
   where
     none : list_any (is_at b n) (lifted b n os) ≡ false
@@ -128,10 +110,10 @@ lifted_most os b n r e = (filter_fewer (is_at r.0 r.1) (λ o. not (is_at b n o))
     gone f = opposed (list_any (is_at b n) (lifted b n os)) (sym (ap (λ x. list_any (is_at x.0 x.1) (lifted b n os)) f) ∙ e) none
 
 -- heap blocks lie below the stacks
-abbrev is_low : Object → Bool
+abbrev pub is_low : Object → Bool
 is_low o = not (is_heap o.kind) || nat_lt o.base 0x90000000
 
-heap_low : (os : List Object) (a n : ℕ) → list_all is_low os ≡ true → heap_at os a ≡ Some n → a < 0x90000000
+pub heap_low : (os : List Object) (a n : ℕ) → list_all is_low os ≡ true → heap_at os a ≡ Some n → a < 0x90000000
 heap_low [] a n h e = absurd (none_some n e)
 heap_low (o ∷ os) a n h e = let f = both (is_low o) (list_all is_low os) h in go ((o.base == a) && is_heap o.kind) refl e f.0 (heap_low os a n f.1)
   where
@@ -144,7 +126,7 @@ heap_low (o ∷ os) a n h e = let f = both (is_low o) (list_all is_low os) h in 
     go true f e l rec = let g = both (o.base == a) (is_heap o.kind) f in low g.0 g.1 (either (not (is_heap o.kind)) (nat_lt o.base 0x90000000) l)
 
 -- without a heap block
-removed_keeps : (os : List Object) (a : ℕ) (r : Range) → a < 0x90000000 → 0x90000000 ≤ r.0 → IsThere os r → IsThere (removed a os) r
+pub removed_keeps : (os : List Object) (a : ℕ) (r : Range) → a < 0x90000000 → 0x90000000 ≤ r.0 → IsThere os r → IsThere (removed a os) r
 removed_keeps os a r lt le e = any-filter_same (is_at r.0 r.1) (λ o. not (o.base == a)) true (λ o h. not_false (o.base == a) (other o h)) os ∙ e
   where
     other : (o : Object) → is_at r.0 r.1 o ≡ true → (o.base == a) ≡ false
@@ -153,7 +135,7 @@ removed_keeps os a r lt le e = any-filter_same (is_at r.0 r.1) (λ o. not (o.bas
         ne_eqb o.base a (λ g. omega (arith, f, g))
 
 -- the buffers
-abbrev items : List (List Item) → ℕ → List Item
+abbrev pub items : List (List Item) → ℕ → List Item
 items buffers i = items_or_none (slice_get buffers i)
 
 items_set : (buffers : List (List Item)) (i : ℕ) (is : List Item) → i < length buffers → items (slice_set buffers i is) i ≡ is
@@ -167,7 +149,7 @@ set_items buffers i lt =
     let y = get_some buffers i lt in
     ap (λ l. slice_set buffers i l) (ap items_or_none y.1) ∙ set_get buffers i y.0 y.1
 
-items_within : (buffers : List (List Item)) (i : ℕ) (x : Item) (rest : List Item) → items buffers i ≡ x ∷ rest → i < length buffers
+pub items_within : (buffers : List (List Item)) (i : ℕ) (x : Item) (rest : List Item) → items buffers i ≡ x ∷ rest → i < length buffers
 items_within buffers i x rest e = go (slice_get buffers i) refl
   where
     go : (o : Option (List Item)) → slice_get buffers i ≡ o → i < length buffers
@@ -181,7 +163,7 @@ items_push (b ∷ bs) zero = refl
 items_push (b ∷ bs) (suc j) = items_push bs j
 
 -- a function, with one value changed
-abbrev at_one : (ℕ → Range → ℕ) → ℕ → (Range → ℕ) → ℕ → Range → ℕ
+abbrev pub at_one : (ℕ → Range → ℕ) → ℕ → (Range → ℕ) → ℕ → Range → ℕ
 at_one f i m j = if eqb i j then m else f j
 
 at_same : (f : ℕ → Range → ℕ) (i : ℕ) (m : Range → ℕ) → at_one f i m i ≡ m
@@ -201,7 +183,7 @@ stacked_tail (Place b n) is h = h.1
 stacked_tail (Lift b n) is h = h
 
 -- what place_ok tells of the other buffers
-other_unplaced : (b n i : ℕ) (buffers : List (List Item)) → pending_ok b n i buffers ≡ true → (j : ℕ) → (i ≢ j) → unplaced b n (items buffers j) ≡ true
+pub other_unplaced : (b n i : ℕ) (buffers : List (List Item)) → pending_ok b n i buffers ≡ true → (j : ℕ) → (i ≢ j) → unplaced b n (items buffers j) ≡ true
 other_unplaced b n i [] e j ne = refl
 other_unplaced b n zero (own ∷ others) e zero ne = absurd (ne refl)
 other_unplaced b n zero (own ∷ others) e (suc j) ne = all_of others j (both (places_lifted b n own) (list_all (unplaced b n) others) e).1
@@ -213,7 +195,7 @@ other_unplaced b n zero (own ∷ others) e (suc j) ne = all_of others j (both (p
 other_unplaced b n (suc i) (other ∷ buffers) e zero ne = (both (unplaced b n other) (pending_ok b n i buffers) e).0
 other_unplaced b n (suc i) (other ∷ buffers) e (suc j) ne = other_unplaced b n i buffers (both (unplaced b n other) (pending_ok b n i buffers) e).1 j (λ f. ne (ap suc f))
 
-own_lifted : (b n i : ℕ) (buffers : List (List Item)) → pending_ok b n i buffers ≡ true → places_lifted b n (items buffers i) ≡ true
+pub own_lifted : (b n i : ℕ) (buffers : List (List Item)) → pending_ok b n i buffers ≡ true → places_lifted b n (items buffers i) ≡ true
 own_lifted b n i [] e = refl
 own_lifted b n zero (own ∷ others) e = (both (places_lifted b n own) (list_all (unplaced b n) others) e).0
 own_lifted b n (suc i) (other ∷ buffers) e = own_lifted b n i buffers (both (unplaced b n other) (pending_ok b n i buffers) e).1
@@ -223,7 +205,7 @@ index_items [] i = refl
 index_items (b ∷ bs) zero = refl
 index_items (b ∷ bs) (suc i) = index_items bs i
 
-lifted_where : (b n : ℕ) (own : List Item) (os : List Object) → objects_lifted b n own os ≡ true → (r : Range) → IsThere os r → (meets r.0 r.1 b n ≡ false) ⊎ (list_any (is_lift r.0 r.1) own ≡ true)
+pub lifted_where : (b n : ℕ) (own : List Item) (os : List Object) → objects_lifted b n own os ≡ true → (r : Range) → IsThere os r → (meets r.0 r.1 b n ≡ false) ⊎ (list_any (is_lift r.0 r.1) own ≡ true)
 lifted_where b n own [] e r h = absurd (opposed false h refl)
 lifted_where b n own (o ∷ os) e r h =
     let f = both (not (meets o.base o.size b n) || list_any (is_lift o.base o.size) own) (objects_lifted b n own os) e in
@@ -237,13 +219,14 @@ lifted_where b n own (o ∷ os) e r h =
     go (inl x) f rec = subst (λ q. (meets q.0 q.1 b n ≡ false) ⊎ (list_any (is_lift q.0 q.1) own ≡ true)) (range_of o r x) (here (either (not (meets o.base o.size b n)) (list_any (is_lift o.base o.size) own) f))
     go (inr x) f rec = rec x
 
-record IsAllowed (os : List Object) (buffers : List (List Item)) (i b n : ℕ) : Type 0 where
-  some : 1 ≤ n
-  high : 0x90000000 ≤ b
-  objects : objects_lifted b n (items buffers i) os ≡ true
-  pending : pending_ok b n i buffers ≡ true
+pub record IsAllowed (os : List Object) (buffers : List (List Item)) (i b n : ℕ) : Type 0 where
+  pub some : 1 ≤ n
+  pub high : 0x90000000 ≤ b
+  pub word : b < 2 ^ 32
+  pub objects : objects_lifted b n (items buffers i) os ≡ true
+  pub pending : pending_ok b n i buffers ≡ true
 
-allowed : (os : List Object) (buffers : List (List Item)) (i b n align : ℕ) → is_place_allowed os buffers i b n align ≡ true → IsAllowed os buffers i b n
+pub allowed : (os : List Object) (buffers : List (List Item)) (i b n align : ℕ) → is_place_allowed os buffers i b n align ≡ true → IsAllowed os buffers i b n
 allowed os buffers i b n align e =
     let inner = objects_lifted b n (slice_index_or buffers i []) os && pending_ok b n i buffers in
     let e1 = both (nat_lt 0 n) (nat_lt 0 align && ((b % align == 0) && (is_in_stacks b n && inner))) e in
@@ -251,32 +234,35 @@ allowed os buffers i b n align e =
     let e3 = both (b % align == 0) (is_in_stacks b n && inner) e2.1 in
     let e4 = both (is_in_stacks b n) inner e3.1 in
     let e5 = both (objects_lifted b n (slice_index_or buffers i []) os) (pending_ok b n i buffers) e4.1 in
+    let e6 = both (nat_le 0x90000000 b) (nat_le (b + n) 0xF0000000) e4.0 in
     let lt : 0 < n = ltb-true 0 n e1.0 in
+    let top : b + n ≤ 0xF0000000 = leb-true (b + n) 0xF0000000 e6.1 in
     record {
       some = lt;
-      high = leb-true 0x90000000 b (both (nat_le 0x90000000 b) (nat_le (b + n) 0xF0000000) e4.0).0;
+      high = leb-true 0x90000000 b e6.0;
+      word = omega arith;
       objects = ap (λ l. objects_lifted b n l os) (sym (index_items buffers i)) ∙ e5.0;
       pending = e5.1;
     }
 
 module _ {State : Type 0} (l : Language State) where
   -- which ranges of memory each thread owns, and what holds of them and of the buffers
-  record Sound (at : Places) (os : List Object) (buffers : List (List Item)) (threads : List State) : Type 0 where
-    owned : ℕ → Range → ℕ
-    many : length buffers ≡ length threads
-    live : (i : ℕ) (r : Range) → 0 < owned i r → IsThere os r × (0x90000000 ≤ r.0)
-    once : (i : ℕ) (r : Range) → owned i r ≤ 1
-    alone : (i j : ℕ) (r : Range) → (j ≡ i → ⊥) → 0 < owned i r → owned j r ≡ 0
-    unborn : (i : ℕ) (r : Range) → length threads ≤ i → owned i r ≡ 0
-    plays : (i : ℕ) (s : State) → slice_get threads i ≡ Some s → Plays (items buffers i) (owned i) (λ r. count r (l.ranges s))
-    known : (i : ℕ) (s : State) → slice_get threads i ≡ Some s → IsThread l at s
-    clear : (i : ℕ) → Clear (items buffers i) (IsThere os)
-    apart : (i j : ℕ) → (j ≡ i → ⊥) → Apart (items buffers i) (items buffers j)
-    stacked : (i : ℕ) → Stacked (items buffers i)
-    low : list_all is_low os ≡ true
+  pub record Sound (at : Places) (os : List Object) (buffers : List (List Item)) (threads : List State) : Type 0 where
+    pub owned : ℕ → Range → ℕ
+    pub many : length buffers ≡ length threads
+    pub live : (i : ℕ) (r : Range) → 0 < owned i r → IsThere os r × (0x90000000 ≤ r.0)
+    pub once : (i : ℕ) (r : Range) → owned i r ≤ 1
+    pub alone : (i j : ℕ) (r : Range) → (j ≡ i → ⊥) → 0 < owned i r → owned j r ≡ 0
+    pub unborn : (i : ℕ) (r : Range) → length threads ≤ i → owned i r ≡ 0
+    pub plays : (i : ℕ) (s : State) → slice_get threads i ≡ Some s → Plays (items buffers i) (owned i) (λ r. count r (l.ranges s))
+    pub known : (i : ℕ) (s : State) → slice_get threads i ≡ Some s → IsThread l at s
+    pub clear : (i : ℕ) → Clear (items buffers i) (IsThere os)
+    pub apart : (i j : ℕ) → (j ≡ i → ⊥) → Apart (items buffers i) (items buffers j)
+    pub stacked : (i : ℕ) → Stacked (items buffers i)
+    pub low : list_all is_low os ≡ true
 
   -- the oldest items are safe
-  safe_items : (at : Places) (os : List Object) (buffers : List (List Item)) (threads : List State) → Sound at os buffers threads → (i : ℕ) (is : List Item) → items buffers i ≡ is → IsSafe os is
+  pub safe_items : (at : Places) (os : List Object) (buffers : List (List Item)) (threads : List State) → Sound at os buffers threads → (i : ℕ) (is : List Item) → items buffers i ≡ is → IsSafe os is
   safe_items at os buffers threads v i [] e = tt
   safe_items at os buffers threads v i (Put c a w ∷ is) e = tt
   safe_items at os buffers threads v i (Place b n ∷ is) e = none_met os (subst (λ x. Clear x (IsThere os)) e (v.clear i)).0
@@ -344,7 +330,7 @@ module _ {State : Type 0} (l : Language State) where
               let a = subst (λ x. Apart x (items buffers m)) (sym (items_other buffers i j is e)) (v.apart j m ne) in
               subst (λ x. Apart (items (slice_set buffers i is) j) x) (sym (items_other buffers i m is f)) a
 
-      sound_thread : Sound at os (slice_set buffers i is) (slice_set threads i u)
+      pub sound_thread : Sound at os (slice_set buffers i is) (slice_set threads i u)
       sound_thread =
           record {
             owned = v.owned;
@@ -362,7 +348,7 @@ module _ {State : Type 0} (l : Language State) where
           }
 
     -- a thread goes on, and nothing else changes
-    sound_resume : (i : ℕ) (s : State) → slice_get threads i ≡ Some s → (u : State) → IsThread l at u → l.ranges u ≡ l.ranges s → Sound at os buffers (slice_set threads i u)
+    pub sound_resume : (i : ℕ) (s : State) → slice_get threads i ≡ Some s → (u : State) → IsThread l at u → l.ranges u ≡ l.ranges s → Sound at os buffers (slice_set threads i u)
     sound_resume i s g u k e =
         let lt : i < length buffers = omega (arith, slice_get_within threads i s g, v.many) in
         let pl = subst (λ x. Plays (items buffers i) (v.owned i) (λ r. count r x)) (sym e) (v.plays i s g) in
@@ -370,7 +356,7 @@ module _ {State : Type 0} (l : Language State) where
         (sound_thread i s g (items buffers i) u k pl (v.clear i) (λ j ne. v.apart i j ne) (λ j ne. v.apart j i (λ f. ne (sym f))) (v.stacked i))
 
     -- the objects change, and the ranges that are owned stay
-    sound_objects : (ps : List Object) → ((r : Range) → 0x90000000 ≤ r.0 → IsThere os r → IsThere ps r) → ((i : ℕ) → Clear (items buffers i) (IsThere ps)) → list_all is_low ps ≡ true → Sound at ps buffers threads
+    pub sound_objects : (ps : List Object) → ((r : Range) → 0x90000000 ≤ r.0 → IsThere os r → IsThere ps r) → ((i : ℕ) → Clear (items buffers i) (IsThere ps)) → list_all is_low ps ≡ true → Sound at ps buffers threads
     sound_objects ps keeps cl low =
         record {
           owned = v.owned;
@@ -388,7 +374,7 @@ module _ {State : Type 0} (l : Language State) where
         }
 
     -- a further thread
-    sound_spawn : (u : State) → IsThread l at u → l.ranges u ≡ [] → Sound at os (buffers ++ [] ∷ []) (threads ++ u ∷ [])
+    pub sound_spawn : (u : State) → IsThread l at u → l.ranges u ≡ [] → Sound at os (buffers ++ [] ∷ []) (threads ++ u ∷ [])
     sound_spawn u k e =
         record {
           owned = v.owned;
@@ -425,18 +411,18 @@ module _ {State : Type 0} (l : Language State) where
 
     -- the oldest item of a buffer reaches memory: the objects and what its thread owns change
     module _ (i : ℕ) (x : Item) (rest : List Item) (e : items buffers i ≡ x ∷ rest) (ps : List Object) (own : Range → ℕ) where
-      record Drains : Type 0 where
-        live : (r : Range) → 0 < own r → IsThere ps r × (0x90000000 ≤ r.0)
-        keeps : (j : ℕ) → (j ≡ i → ⊥) → (r : Range) → 0 < v.owned j r → IsThere ps r
-        once : (r : Range) → own r ≤ 1
-        mine : (j : ℕ) → (j ≡ i → ⊥) → (r : Range) → 0 < own r → v.owned j r ≡ 0
-        theirs : (j : ℕ) → (j ≡ i → ⊥) → (r : Range) → 0 < v.owned j r → own r ≡ 0
-        plays : (s : State) → slice_get threads i ≡ Some s → Plays rest own (λ r. count r (l.ranges s))
-        clear_rest : Clear rest (IsThere ps)
-        clear_others : (j : ℕ) → (j ≡ i → ⊥) → Clear (items buffers j) (IsThere ps)
-        low : list_all is_low ps ≡ true
+      pub record Drains : Type 0 where
+        pub live : (r : Range) → 0 < own r → IsThere ps r × (0x90000000 ≤ r.0)
+        pub keeps : (j : ℕ) → (j ≡ i → ⊥) → (r : Range) → 0 < v.owned j r → IsThere ps r
+        pub once : (r : Range) → own r ≤ 1
+        pub mine : (j : ℕ) → (j ≡ i → ⊥) → (r : Range) → 0 < own r → v.owned j r ≡ 0
+        pub theirs : (j : ℕ) → (j ≡ i → ⊥) → (r : Range) → 0 < v.owned j r → own r ≡ 0
+        pub plays : (s : State) → slice_get threads i ≡ Some s → Plays rest own (λ r. count r (l.ranges s))
+        pub clear_rest : Clear rest (IsThere ps)
+        pub clear_others : (j : ℕ) → (j ≡ i → ⊥) → Clear (items buffers j) (IsThere ps)
+        pub low : list_all is_low ps ≡ true
 
-      sound_drain : Drains → Sound at ps (slice_set buffers i rest) threads
+      pub sound_drain : Drains → Sound at ps (slice_set buffers i rest) threads
       sound_drain d =
           record {
             owned = at_one v.owned i own;

@@ -3,15 +3,17 @@
 
 ghost use Rattle.std.specs.Prelude.{ℕ, ◌+◌, ◌*◌, ◌≢◌, List};
 ghost use Rattle.tso_core.specs.declared.Step.{Step};
-ghost use Rattle.tso_core.specs.Systems.{System, Places, Wrong};
+ghost use Rattle.tso_core.specs.Systems.{System, Places, Wrong, after};
 ghost use Rattle.tso_core.specs.Matching.{Matches};
 ghost use Rattle.tso_core.specs.Literal.{LiteralMatches};
 ghost use Rattle.tso_core.specs.Refinement.{Refines};
 ghost use Rattle.tso_core.specs.Ties.{Relation, IsMachineTie};
 ghost use Rattle.tso_core.specs.Language.{Language};
-ghost use Rattle.tso_core.specs.Machine.{machine};
+ghost use Rattle.tso_core.specs.Machine.{open_machine, machine};
+ghost use Rattle.tso_core.specs.Locals.{AreSafe};
 ghost use Rattle.tso_core.specs.Simulation.{ThreadSimulation};
 
+use crate::language::ThreadLang;
 use crate::traced::Traced;
 
 /// Refinements compose, and their factors multiply.
@@ -90,4 +92,10 @@ pub trait ThreadSim {
 pub fn sim_lifts<S: ThreadSim>(p: &S::Source, q: &S::Target)
     requires { S.IsPair p.now q.now }
     ensures { Refines (machine (S.source p.now)) (machine (S.target q.now)) (S.bound + 1) }
+{}
+
+/// In each state that a run of a machine comes to, the oldest item of every buffer is safe to apply:
+/// no live object meets a Place, and the object of a Lift is live.
+pub fn locals_are_safe<L: ThreadLang>(p: &L::Program)
+    ensures { (at : Places) (steps : List Step) → AreSafe (after (open_machine (L.language p.now)) ((open_machine (L.language p.now)).opening at) steps).shared }
 {}
