@@ -1,5 +1,5 @@
 -- Laws of the order in which less is known: what is answered of more is more.
-use Rattle.std.proofs.Common.{◌≡◌, ℕ, zero, suc, ◌+◌, ◌*◌, ◌^◌, Bool, true, false, cond, List, [], ◌∷◌, Option, Some, None, refl, subst, ap, sym, ◌∙◌, arith, rules}
+use Rattle.std.proofs.Common.{◌≡◌, ℕ, zero, suc, Bool, true, false, List, [], ◌∷◌, Option, Some, None, refl, subst}
 use Rattle.std.specs.Prelude.{if◌then◌else◌, nat_lt}
 use Rattle.std.specs.List.{AllZip}
 use Rattle.tso_words.specs.declared.value.Val.{Val}
@@ -9,7 +9,7 @@ use Rattle.tso_words.specs.declared.value.Cell.TheVariants.{Blank, Byte}
 use Rattle.tso_words.specs.declared.value.Chunk.{Chunk}
 use Rattle.tso_words.specs.declared.operator.Cond.{Cond}
 use Rattle.tso_words.specs.declared.operator.Op.{Op}
-use Rattle.tso_words.specs.declared.operator.Op.TheVariants.{Add, Sub, Mul, And, Or, Xor, DivS, ModS, DivU, ModU, Shl, ShrS, ShrU, Neg, Not, Cast8s, Cast8u, Cast16s, Cast16u, Cmp}
+use Rattle.tso_words.specs.declared.operator.Op.TheVariants.{DivS, ModS, DivU, ModU, Shl, ShrS, ShrU, Neg, Not, Cast8s, Cast8u, Cast16s, Cast16u}
 use Rattle.tso_words.specs.Words.{chunk_size, byte_of, bytes_from, bytes_of, with_byte, number_of, extend, value_of}
 use Rattle.tso_words.specs.Operators.{compare, of_one, of_two, of_division, of_shift, operate, operate_one, operate_two}
 use Rattle.tso_words.specs.Below.{ValBelow, CellBelow, ValsBelow, CellsBelow, AnswerBelow}

@@ -1,5 +1,5 @@
 -- Laws of the bytes of a value.
-use Rattle.std.proofs.Common.{◌≡◌, ℕ, zero, suc, ◌+◌, ◌-◌, ◌*◌, ◌/◌, ◌%◌, ◌^◌, ◌<◌, List, [], ◌∷◌, Option, Some, None, length, refl, ap, sym, ◌∙◌, arith, rules}
+use Rattle.std.proofs.Common.{◌≡◌, ℕ, zero, suc, ◌+◌, ◌*◌, ◌/◌, ◌%◌, ◌^◌, ◌<◌, List, [], ◌∷◌, Some, length, refl, ap, arith}
 use Rattle.std.specs.List.{AllByRecursion}
 use Rattle.tso_words.specs.declared.value.Val.{Val}
 use Rattle.tso_words.specs.declared.value.Val.TheVariants.{Undef, Word}

@@ -1,8 +1,6 @@
 -- Laws of the operators and the comparisons.
-use Rattle.std.proofs.Common.{◌≡◌, ◌≢◌, ℕ, suc, ◌+◌, ◌-◌, ◌*◌, ◌/◌, ◌%◌, ◌^◌, ◌<◌, Bool, true, false, not, cond, List, [], ◌∷◌, map, Option, Some, None, ltb, leb, refl, ap, subst, sym, ◌∙◌, arith, rules}
-use Rattle.std.proofs.lemmas.Bool.{cases_Bool}
-use Rattle.std.proofs.lemmas.Int.{ints}
-use Rattle.std.specs.Prelude.{if◌then◌else◌, ℤ, pos, negsuc, int_lt, int_le, int_div, int_rem, option_map, bit_and, bit_or, bit_xor, nat_lt, IfSome}
+use Rattle.std.proofs.Common.{◌≡◌, ◌≢◌, ℕ, ◌%◌, ◌^◌, ◌<◌, Bool, true, false, not, List, [], ◌∷◌, map, Some, None, refl, ap, subst, sym, arith}
+use Rattle.std.specs.Prelude.{if◌then◌else◌, ℤ, pos, negsuc, int_lt, int_le, int_div, int_rem, option_map, nat_lt, IfSome}
 use Rattle.std.proofs.lemmas.Nat.{and_le_l, or_lt, xor_lt, shr_le}
 use Rattle.std.proofs.Math.Nat.{lt_of_le_of_lt, div-le_self, mod-le}
 use Rattle.std.specs.Int.{int_div_euclid}
@@ -84,6 +82,11 @@ operate-words op [] = λ e. cc
 operate-words op (a ∷ []) = one_word op a
 operate-words op (a ∷ b ∷ []) = two_words op a b
 operate-words op (a ∷ b ∷ c ∷ rest) = λ e. cc
+
+-- what an operator on words answers, if it is not wrong, is a word
+pub answer_of_words : (op : Op) (ws : List ℕ) (v : Val) → operate op (map Word ws) ≡ Some v → (w : ℕ) × (v ≡ Word w)
+answer_of_words op ws Undef e = absurd (operate-words op ws e)
+answer_of_words op ws (Word w) e = (w, refl)
 
 -- ---- answers are values
 

@@ -1,5 +1,5 @@
 -- What the operators of the intermediate languages answer (after CompCert's operations on 32-bit integers; these are modulo 2 ^ 32 over numbers, where the code uses machine operations). None is a wrong operation.
-use Rattle.std.specs.Prelude.{ℕ, zero, suc, ◌+◌, ◌-◌, ◌*◌, ◌/◌, ◌%◌, ◌^◌, Bool, true, false, not, ◌&&◌, ◌==◌, nat_lt, nat_le, if◌then◌else◌, List, [], ◌∷◌, Option, Some, None, ℤ, pos, negsuc, ◌-ℤ◌, int_div, int_rem, int_lt, int_le, bit_and, bit_or, bit_xor}
+use Rattle.std.specs.Prelude.{ℕ, ◌+◌, ◌-◌, ◌*◌, ◌/◌, ◌%◌, ◌^◌, Bool, true, false, not, ◌&&◌, ◌==◌, nat_lt, nat_le, if◌then◌else◌, List, [], ◌∷◌, Option, Some, None, ℤ, pos, negsuc, ◌-ℤ◌, int_div, int_rem, int_lt, int_le, bit_and, bit_or, bit_xor}
 use Rattle.std.specs.Int.{int_div_euclid}
 use Rattle.tso_words.specs.declared.value.Val.{Val}
 use Rattle.tso_words.specs.declared.value.Val.TheVariants.{Undef, Word}

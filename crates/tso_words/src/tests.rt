@@ -4,6 +4,7 @@
 use crate::{
     Cell, Chunk, Cond, Name, Op, Val, Words, bytes_of, eval_cond, eval_op, size_of_chunk, val_of,
 };
+use std::collections::{BTreeMap, HashMap};
 use std::process::Abort;
 use std::test::Fail;
 
@@ -402,5 +403,20 @@ fn names_and_words_are_their_lists(rt: HostRuntime) -> Result<(), Fail> {
     let words = Words::made(rt.alloc(), &[1, 0, ONES])?;
     assert_eq!(rt; words.list(), [1, 0, ONES].as_slice());
     assert_eq!(rt; words, words.clone()?);
+    Ok(())
+}
+
+#[test]
+fn names_are_keys(rt: HostRuntime) -> Result<(), Fail> {
+    let main = Name::made(rt.alloc(), b"main")?;
+    let other = Name::made(rt.alloc(), b"mail")?;
+    let mut hashed = HashMap::new(rt.alloc());
+    hashed.insert(main.clone()?, 3)?;
+    assert_eq!(rt; hashed.get(&main).copied(), Some(3));
+    assert_eq!(rt; hashed.get(&other).copied(), None);
+    let mut sorted = BTreeMap::new(rt.alloc());
+    sorted.insert(main.clone()?, 3)?;
+    assert_eq!(rt; sorted.get(&main).copied(), Some(3));
+    assert_eq!(rt; sorted.get(&other).copied(), None);
     Ok(())
 }
