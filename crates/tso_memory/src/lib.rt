@@ -4,7 +4,7 @@
 
 pub mod buffer;
 pub mod object;
-mod pages;
+pub mod pages;
 
 pub use buffer::Item;
 pub use object::{Kind, Object};
