@@ -1,2 +1,3 @@
+pub mod KeptMemory
 pub mod ObjectLists
 pub mod PageLookups

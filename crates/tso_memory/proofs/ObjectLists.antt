@@ -1,11 +1,19 @@
 -- Lists of objects in order: searches, insertions and filters.
-use Rattle.std.proofs.Common.{◌≡◌, ◌≢◌, ℕ, zero, suc, ◌+◌, ◌-◌, ◌*◌, ◌^◌, ◌<◌, ◌≤◌, Bool, true, false, not, List, [], ◌∷◌, ◌++◌, length, get_or, take, drop, Option, Some, None, refl, sym, ap, ◌∙◌, subst, inl, inr, ◌⊎◌, arith, if◌then◌else◌, ◌==◌, ◌&&◌, ◌||◌, nat_le, nat_lt, cond, rules}
+use Rattle.std.proofs.Common.{◌≡◌, ◌≢◌, ℕ, zero, suc, ◌+◌, ◌-◌, ◌*◌, ◌^◌, ◌<◌, ◌≤◌, Bool, true, false, not, List, [], ◌∷◌, ◌++◌, length, get_or, take, drop, Option, Some, None, refl, sym, ap, ◌∙◌, subst, inl, inr, ◌⊎◌, arith, if◌then◌else◌, ◌==◌, ◌&&◌, ◌||◌, ◌%◌, nat_le, nat_lt, cond, is_some, rules}
 use Rattle.std.specs.List.{find, filter, list_any}
 use Rattle.std.specs.List.Sorted.{IsPartitionedBy, IsPartitionPoint}
-use Rattle.std.proofs.lemmas.Bool.{cases_lt, cases_eq, cases_Bool, lt-ltb, le-ltb, le-leb, lt-leb, leb-true, leb-false, ltb-true, ltb-false, cond-true, cond-false, and_left, and_right, and_parts, or_parts}
+use Rattle.std.proofs.lemmas.Bool.{cases_lt, cases_eq, cases_Bool, lt-ltb, le-ltb, le-leb, lt-leb, leb-true, leb-false, ltb-true, ltb-false, eq-eqb, cond-true, cond-false, and_left, and_right, and_parts, or_parts, or_cases, or_right}
 use Rattle.std.proofs.lemmas.Bool.Decides.{nat_tests}
+use Rattle.tso_words.specs.declared.value.Cell.{Cell}
+use Rattle.tso_words.specs.declared.value.Cell.TheVariants.{Blank, Byte}
+use Rattle.tso_words.specs.declared.value.Val.{Val}
+use Rattle.tso_words.specs.declared.value.Val.TheVariants.{Word}
+use Rattle.tso_words.specs.declared.value.Chunk.TheVariants.{I8s, I8u, I16s, I16u, I32}
+use Rattle.tso_words.specs.declared.value.Chunk.{Chunk}
+use Rattle.tso_words.specs.Words.{chunk_size, value_of}
 use Rattle.tso_memory.specs.declared.object.Object.{Object}
-use Rattle.tso_memory.specs.Memory.{IsSound, AreObjects, holds, is_in, is_live, is_met, meets, unmet, lifted, removed, inserted}
+use Rattle.tso_memory.specs.Kept.{Kept, kept_at, memory_of, written_at}
+use Rattle.tso_memory.specs.Memory.{IsSound, AreObjects, holds, is_in, is_live, is_met, meets, unmet, lifted, removed, inserted, cells_from, is_right, load, value_at}
 
 -- no object begins below the bound
 pub base_above : (low : ℕ) (os : List Object) → AreObjects low os → (j : ℕ) (d : Object) → j < length os → low ≤ (get_or os j d).base
@@ -82,3 +90,82 @@ module _ (os : List Object) (base size i : ℕ) (d : Object) (h : AreObjects 0 o
 
 pub inserted-searched : (os : List Object) (o : Object) (i : ℕ) → i ≤ length os → IsPartitionPoint (λ p. nat_lt p.base o.base ≡ true) (λ p. nat_lt p.base o.base ≡ false) os i → take i os ++ o ∷ drop i os ≡ inserted o os
 inserted-searched os o i l point = inserted-partition os o o i l (λ k m. ltb-true (get_or os k o).base o.base (point.0 k o (omega arith) m)) (λ k m n. ltb-false (get_or os k o).base o.base (point.1 k o m n))
+
+-- an object is found just where one has the range
+pub is_some-find : (t : Object → Bool) (os : List Object) → is_some (find t os) ≡ list_any t os
+is_some-find t [] = refl
+is_some-find t (o ∷ os) = by_test (t o) (is_some-find t os)
+  where
+    by_test : (b : Bool) → is_some (find t os) ≡ list_any t os → is_some (cond b (Some o) (find t os)) ≡ (b || list_any t os)
+    by_test true h = refl
+    by_test false h = h
+
+pub is_live-find : (os : List Object) (x : ℕ) → is_some (find (λ o. holds o x 1) os) ≡ is_live os x
+is_live-find [] x = refl
+is_live-find (o ∷ os) x = by_test (holds o x 1) (same o.base o.size) (is_live-find os x)
+  where
+    same : (b n : ℕ) → (nat_le b x && nat_le (x + 1) (b + n)) ≡ is_in b n x
+    same b n = grind (arith, nat_tests)
+    by_test : (b : Bool) → b ≡ is_in o.base o.size x → is_some (find (λ o. holds o x 1) os) ≡ is_live os x → is_some (cond b (Some o) (find (λ o. holds o x 1) os)) ≡ (is_in o.base o.size x || is_live os x)
+    by_test true e h = ap (λ z. z || is_live os x) e
+    by_test false e h = h ∙ ap (λ z. z || is_live os x) e
+
+-- the bytes of a range that an object has are live
+pub live_held : (base size x : ℕ) (os : List Object) → list_any (λ o. holds o base size) os ≡ true → base ≤ x → x < base + size → is_live os x ≡ true
+live_held base size x [] h l m = h
+live_held base size x (o ∷ os) h l m = elim (or_cases (holds o base size) (list_any (λ o. holds o base size) os) h) as (λ _. is_live (o ∷ os) x ≡ true) [
+    | inl a ↦ rw (inside o.base o.size a) refl
+    | inr a ↦ or_right (is_in o.base o.size x) (is_live os x) (live_held base size x os a l m)
+  ]
+  where
+    inside : (b n : ℕ) → (nat_le b base && nat_le (base + size) (b + n)) ≡ true → is_in b n x ≡ true
+    inside b n h = grind (arith, nat_tests)
+
+pub cells_from-same : (f g : ℕ → Cell) (a n : ℕ) → ((x : ℕ) → a ≤ x → x < a + n → f x ≡ g x) → cells_from f a n ≡ cells_from g a n
+cells_from-same f g a zero h = refl
+cells_from-same f g a (suc n) h =
+    let here : f a ≡ g a = h a (omega arith) (omega arith) in
+    let rest : cells_from f (suc a) n ≡ cells_from g (suc a) n = cells_from-same f g (suc a) n (λ x l m. h x (omega arith) (omega arith)) in
+    cc
+
+pub cells_from-two : (f : ℕ → Cell) (a : ℕ) → cells_from f a 2 ≡ f a ∷ f (a + 1) ∷ []
+cells_from-two f a = let e : suc a ≡ a + 1 = omega arith in rw e refl
+
+pub cells_from-four : (f : ℕ → Cell) (a : ℕ) → cells_from f a 4 ≡ f a ∷ f (a + 1) ∷ f (a + 2) ∷ f (a + 3) ∷ []
+cells_from-four f a =
+    let e : suc a ≡ a + 1 = omega arith in
+    let e2 : suc (suc a) ≡ a + 2 = omega arith in
+    let e3 : suc (suc (suc a)) ≡ a + 3 = omega arith in
+    ap (λ x. f a ∷ f x ∷ f (suc (suc a)) ∷ f (suc (suc (suc a))) ∷ []) e ∙ (ap (λ x. f a ∷ f (a + 1) ∷ f x ∷ f (suc (suc (suc a))) ∷ []) e2 ∙ ap (λ x. f a ∷ f (a + 1) ∷ f (a + 2) ∷ f x ∷ []) e3)
+
+-- a right load, by the cells of an object
+pub load-kept : (k : Kept) (c : Chunk) (x : ℕ) (cells : List Cell) → is_right k.objects c (Word x) ≡ true → cells ≡ cells_from (kept_at k) x (chunk_size c) → load (memory_of k) c (Word x) ≡ Some (value_of c cells)
+load-kept k c x cells r e =
+    let held = (and_parts (x % chunk_size c == 0) (list_any (λ o. holds o x (chunk_size c)) k.objects) r).1 in
+    cond-true (is_right k.objects c (Word x)) (Some (value_at (memory_of k).cells c (Word x))) None r ∙ ap (λ l. Some (value_of c l)) (cells_from-same (memory_of k).cells (kept_at k) x (chunk_size c) (λ y l m. cond-true (is_live k.objects y) (kept_at k y) Blank (live_held x (chunk_size c) y k.objects held l m)) ∙ sym e)
+
+-- a test of an access by its parts
+pub right_from : (os : List Object) (c : Chunk) (v : Val) (a n : ℕ) (b : Bool) → v ≡ Word a → n ≡ chunk_size c → a % n ≡ 0 → b ≡ list_any (λ o. holds o a n) os → b ≡ is_right os c v
+right_from os c v a n b e f g h = rw (e, ← f) (rw (eq-eqb (a % n) 0 g) h)
+
+-- the cell of an address that was not written
+pub kept_at-unwritten : (k : Kept) (x : ℕ) (w : Option Cell) (b : Bool) → w ≡ None → w ≡ written_at k.pages x → b ≡ is_live k.zeroed x → (if b then Byte 0 else Blank) ≡ kept_at k x
+kept_at-unwritten k x w b e f g = rw (← f, e, ← g) refl
+
+-- loads of one, two and four bytes
+pub loaded_one : (k : Kept) (c : Chunk) (v r : Val) (x : ℕ) (a : Cell) → v ≡ Word x → is_right k.objects c v ≡ true → chunk_size c ≡ 1 → a ≡ kept_at k x → r ≡ value_of c (a ∷ []) → load (memory_of k) c v ≡ Some r
+loaded_one k c v r x a e t n p q = rw e (load-kept k c x (a ∷ []) (sym (ap (λ w. is_right k.objects c w) e) ∙ t) (rw (n, p) refl) ∙ ap (λ u. Some u) (sym q))
+
+pub loaded_two : (k : Kept) (c : Chunk) (v r : Val) (x : ℕ) (a b : Cell) → v ≡ Word x → is_right k.objects c v ≡ true → chunk_size c ≡ 2 → a ≡ kept_at k x → b ≡ kept_at k (x + 1) → r ≡ value_of c (a ∷ b ∷ []) → load (memory_of k) c v ≡ Some r
+loaded_two k c v r x a b e t n p p2 q = rw e (load-kept k c x (a ∷ b ∷ []) (sym (ap (λ w. is_right k.objects c w) e) ∙ t) (rw n (rw (p, p2) (sym (cells_from-two (kept_at k) x)))) ∙ ap (λ u. Some u) (sym q))
+
+pub loaded_four : (k : Kept) (c : Chunk) (v r : Val) (x : ℕ) (a b g h : Cell) → v ≡ Word x → is_right k.objects c v ≡ true → chunk_size c ≡ 4 → a ≡ kept_at k x → b ≡ kept_at k (x + 1) → g ≡ kept_at k (x + 2) → h ≡ kept_at k (x + 3) → r ≡ value_of c (a ∷ b ∷ g ∷ h ∷ []) → load (memory_of k) c v ≡ Some r
+loaded_four k c v r x a b g h e t n p p2 p3 p4 q = rw e (load-kept k c x (a ∷ b ∷ g ∷ h ∷ []) (sym (ap (λ w. is_right k.objects c w) e) ∙ t) (rw n (rw (p, p2, p3, p4) (sym (cells_from-four (kept_at k) x)))) ∙ ap (λ u. Some u) (sym q))
+
+pub size_one : (c : Chunk) → (c ≡ I8s) ⊎ (c ≡ I8u) → chunk_size c ≡ 1
+size_one c (inl e) = ap chunk_size e
+size_one c (inr e) = ap chunk_size e
+
+pub size_two : (c : Chunk) → (c ≡ I16s) ⊎ (c ≡ I16u) → chunk_size c ≡ 2
+size_two c (inl e) = ap chunk_size e
+size_two c (inr e) = ap chunk_size e

@@ -1,10 +1,10 @@
 -- What the fields of a memory stand for. The cells are kept in pages, an entry for each page number; a cell that no store or new object has touched has what its object began with.
-use Rattle.std.specs.Prelude.{◌≡◌, ℕ, ◌+◌, ◌*◌, ◌/◌, ◌%◌, ◌<◌, List, length, Option, Some, None, IsSome, slice_index_or, ◌&&◌, nat_lt, nat_le, if◌then◌else◌}
+use Rattle.std.specs.Prelude.{◌≡◌, ℕ, ◌+◌, ◌*◌, ◌/◌, ◌%◌, ◌<◌, ◌≤◌, List, [], ◌∷◌, length, Option, Some, None, IsSome, slice_index_or, ◌&&◌, nat_lt, nat_le, if◌then◌else◌}
 use Rattle.std.specs.Option.{unwrap_or}
 use Rattle.tso_words.specs.declared.value.Cell.{Cell}
 use Rattle.tso_words.specs.declared.value.Cell.TheVariants.{Blank, Byte}
 use Rattle.tso_memory.specs.declared.object.Object.{Object}
-use Rattle.tso_memory.specs.Memory.{MemoryMeaning, is_live}
+use Rattle.tso_memory.specs.Memory.{MemoryMeaning, AreObjects, is_live}
 
 -- pages of 16,384 cells: for each page number the place of its page, and the pages one after another
 pub record KeptPages : Type 0 where
@@ -52,3 +52,23 @@ kept_at k x = unwrap_or (written_at k.pages x) (if is_live k.zeroed x then Byte 
 -- what it means
 abbrev pub memory_of : Kept → MemoryMeaning
 memory_of k = record { objects = k.objects; cells = λ x. if is_live k.objects x then kept_at k x else Blank }
+
+-- the first are some of the second, in the same order
+pub data Within : List Object → List Object → Type 0 where
+  WithinNone : Within [] []
+  WithinBoth : {o : Object} {xs ys : List Object} → Within xs ys → Within (o ∷ xs) (o ∷ ys)
+  WithinMore : {o : Object} {xs ys : List Object} → Within xs ys → Within xs (o ∷ ys)
+
+-- what the fields of a memory keep
+pub record IsKept (objects zeroed : List Object) : Type 0 where
+  pub in_order : AreObjects 0 objects
+  pub zeroed_order : AreObjects 0 zeroed
+  pub live : Within zeroed objects
+
+-- 1 where the next change needs no memory
+abbrev pub object_room : (length capacity pages : ℕ) → ℕ
+object_room length capacity pages = if nat_le (length + 1) capacity && nat_le 1 pages then 1 else 0
+
+-- the memory without objects
+abbrev pub empty : MemoryMeaning
+empty = record { objects = []; cells = λ x. Blank }

@@ -3,8 +3,10 @@
 #![tactic(auto)]
 
 pub mod buffer;
+pub mod memory;
 pub mod object;
 pub mod pages;
 
 pub use buffer::Item;
+pub use memory::{ApplyRefusal, Memory, WrongAccess};
 pub use object::{Kind, Object};

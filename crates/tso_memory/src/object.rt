@@ -64,6 +64,29 @@ pub(crate) fn find_object(objects: &[Object], base: u32, size: u32) -> Option<Ob
     if o.holds(base, size) { Some(o) } else { None }
 }
 
+/// Whether one of the objects has all `size` bytes from `base` on.
+pub(crate) fn is_held(objects: &[Object], base: u32, size: u32) -> bool
+    requires objects { AreObjects 0 objects.now }
+    requires some { 1 ≤ size }
+    ensures { result ≡ list_any (λ o. holds o base size) objects.now }
+{
+    match find_object(objects, base, size) {
+        Some(_) => true,
+        None => false,
+    }
+}
+
+/// Whether an address lies in one of the objects.
+pub(crate) fn is_live_at(objects: &[Object], x: u32) -> bool
+    requires { AreObjects 0 objects.now }
+    ensures { result ≡ is_live objects.now x }
+{
+    match find_object(objects, x, 1) {
+        Some(_) => true,
+        None => false,
+    }
+}
+
 /// Puts an object at its place.
 pub(crate) fn insert_object(objects: &mut Vec<Object>, o: Object) -> Result<(), AllocError>
     requires { AreObjects 0 objects.old.items }
@@ -78,7 +101,8 @@ pub(crate) fn insert_object(objects: &mut Vec<Object>, o: Object) -> Result<(), 
 
 /// Ends the objects that meet a range.
 pub(crate) fn end_met(objects: &mut Vec<Object>, base: u32, size: u32)
-    ensures { objects.new.items ≡ unmet base size objects.old.items }
+    ensures left { objects.new.items ≡ unmet base size objects.old.items }
+    ensures room { (vec_len objects.new ≤ vec_len objects.old) × (vec_capacity objects.old ≤ vec_capacity objects.new) }
 {
     objects.retain(|o| !o.meets(base, size));
 }
