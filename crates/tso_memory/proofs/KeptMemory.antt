@@ -1,13 +1,19 @@
 -- What the fields of a memory stand for after objects come and go and cells are written.
-use Rattle.std.proofs.Common.{◌≡◌, ◌≢◌, ℕ, zero, suc, ◌+◌, ◌-◌, ◌*◌, ◌^◌, ◌<◌, ◌≤◌, Bool, true, false, not, List, [], ◌∷◌, ◌++◌, length, get_or, Option, Some, None, refl, sym, ap, ◌∙◌, subst, inl, inr, ◌⊎◌, arith, if◌then◌else◌, ◌==◌, ◌&&◌, ◌||◌, nat_le, nat_lt, cond, rules}
+use Rattle.std.proofs.Common.{◌≡◌, ◌≢◌, ℕ, zero, suc, ◌+◌, ◌-◌, ◌*◌, ◌%◌, ◌^◌, ◌<◌, ◌≤◌, Bool, true, false, not, List, [], ◌∷◌, ◌++◌, length, get_or, Option, Some, None, refl, sym, ap, ◌∙◌, subst, inl, inr, ◌⊎◌, arith, if◌then◌else◌, ◌==◌, ◌&&◌, ◌||◌, nat_le, nat_lt, cond, rules}
 use Rattle.std.specs.List.{find, filter, list_any}
 use Rattle.std.specs.Option.{unwrap_or}
 use Rattle.std.proofs.lemmas.Bool.{cases_lt, cases_eq, cases_Bool, lt-ltb, le-ltb, le-leb, lt-leb, leb-true, leb-false, ltb-true, ltb-false, cond-true, cond-false, cond_both, or_from, and_left, and_right, and_parts, and_from, or_parts, or_cases, or_right, false≢true, true≢false}
 use Rattle.std.proofs.lemmas.Bool.Decides.{nat_tests}
 use Rattle.tso_words.specs.declared.value.Cell.{Cell}
 use Rattle.tso_words.specs.declared.value.Cell.TheVariants.{Blank, Byte}
+use Rattle.tso_words.specs.declared.value.Val.{Val}
+use Rattle.tso_words.specs.declared.value.Val.TheVariants.{Word}
+use Rattle.tso_words.specs.declared.value.Chunk.{Chunk}
+use Rattle.tso_words.specs.declared.value.Chunk.TheVariants.{I8s, I8u, I16s, I16u, I32}
+use Rattle.tso_words.specs.Words.{chunk_size, byte_of, bytes_from, bytes_of}
 use Rattle.tso_memory.specs.declared.object.Object.{Object}
-use Rattle.tso_memory.specs.Memory.{MemoryMeaning, IsSound, AreObjects, holds, is_in, is_live, is_met, meets, unmet, lifted, removed, inserted, added, only, IsApart}
+use Rattle.tso_memory.specs.Memory.{MemoryMeaning, IsSound, AreObjects, holds, is_in, is_live, is_met, meets, unmet, lifted, removed, inserted, added, only, IsApart, is_right, put, cells_put}
+use Rattle.tso_memory.proofs.ObjectLists.{live_held}
 use Rattle.tso_memory.specs.Kept.{Within, WithinNone, WithinBoth, WithinMore, IsKept, Kept, KeptPages, memory_of, written_at}
 
 -- two memories with the same objects and the same cell at each address
@@ -221,3 +227,52 @@ memory_of-placed base size o k l e f r p q w =
     let middle : Kept = record { objects = unmet base size k.objects; zeroed = unmet base size k.zeroed; pages = k.pages; spare = 0 } in
     let kept : IsKept (unmet base size k.objects) (unmet base size k.zeroed) = IsKept-filter (λ o. not (is_met base size o)) k.objects k.zeroed r in
     memory_of-added o middle l kept.live (rw (e, f) (IsApart-unmet base size k.objects)) p q (λ x. rw (e, f) (w x)) ∙ ap (added o Blank) (memory_of-filter (λ o. not (is_met base size o)) k middle r.live r.in_order refl refl (λ x. refl))
+
+-- the bytes of a value, one by one
+get_or-bytes_from : (v : Val) (i n k : ℕ) (d : Cell) → k < n → get_or (bytes_from v i n) k d ≡ byte_of v (i + k)
+get_or-bytes_from v i zero k d h = absurd (omega arith)
+get_or-bytes_from v i (suc n) zero d h = let e : i ≡ i + 0 = omega arith in ap (byte_of v) e
+get_or-bytes_from v i (suc n) (suc k) d h = let e : suc i + k ≡ i + suc k = omega arith in get_or-bytes_from v (suc i) n k d (omega arith) ∙ ap (byte_of v) e
+
+length-bytes_from : (v : Val) (i n : ℕ) → length (bytes_from v i n) ≡ n
+length-bytes_from v i zero = refl
+length-bytes_from v i (suc n) = ap suc (length-bytes_from v (suc i) n)
+
+pub length-bytes_of : (c : Chunk) (v : Val) → length (bytes_of c v) ≡ chunk_size c
+length-bytes_of c v = length-bytes_from v 0 (chunk_size c)
+
+get_or-bytes_of : (c : Chunk) (v : Val) (k : ℕ) → k < chunk_size c → get_or (bytes_of c v) k Blank ≡ byte_of v k
+get_or-bytes_of c v k h = let e : 0 + k ≡ k = omega arith in get_or-bytes_from v 0 (chunk_size c) k Blank h ∙ ap (byte_of v) e
+
+-- a right store
+cells-put : (c : Chunk) (a : ℕ) (v : Val) (os zs : List Object) (w u : ℕ → Option Cell) → list_any (λ o. holds o a (chunk_size c)) os ≡ true → ((x : ℕ) → u x ≡ (if is_in a (chunk_size c) x then Some (get_or (bytes_of c v) (x - a) Blank) else w x)) → (x : ℕ) → kept_cells os zs u x ≡ cells_put (kept_cells os zs w) c (Word a) v x
+cells-put c a v os zs w u held written x =
+    ap (λ r. if is_live os x then unwrap_or r (if is_live zs x then Byte 0 else Blank) else Blank) (written x) ∙ by_test (is_in a (chunk_size c) x) (λ e. let b = inside_parts a (chunk_size c) x e in live_held a (chunk_size c) x os held b.0 b.1) (λ e. let b = inside_parts a (chunk_size c) x e in get_or-bytes_of c v (x - a) (omega arith))
+  where
+    inside_parts : (b n x : ℕ) → is_in b n x ≡ true → (b ≤ x) × (x < b + n)
+    inside_parts b n x e = let p = and_parts (nat_le b x) (nat_lt x (b + n)) e in (leb-true b x p.0, ltb-true x (b + n) p.1)
+    by_test : (b : Bool) → (b ≡ true → is_live os x ≡ true) → (b ≡ true → get_or (bytes_of c v) (x - a) Blank ≡ byte_of v (x - a)) → (if is_live os x then unwrap_or (if b then Some (get_or (bytes_of c v) (x - a) Blank) else w x) (if is_live zs x then Byte 0 else Blank) else Blank) ≡ (if b then byte_of v (x - a) else kept_cells os zs w x)
+    by_test true live byte = ap (λ z. if z then get_or (bytes_of c v) (x - a) Blank else Blank) (live refl) ∙ byte refl
+    by_test false live byte = refl
+
+pub memory_of-put : (c : Chunk) (a : ℕ) (addr v : Val) (k l : Kept) (bytes : List Cell) → addr ≡ Word a → is_right k.objects c addr ≡ true → bytes ≡ bytes_of c v → l.objects ≡ k.objects → l.zeroed ≡ k.zeroed → ((x : ℕ) → written_at l.pages x ≡ (if is_in a (length bytes) x then Some (get_or bytes (x - a) Blank) else written_at k.pages x)) → put (memory_of k) c addr v ≡ Some (memory_of l)
+memory_of-put c a addr v k l bytes e right b p q w =
+    let right_at : is_right k.objects c (Word a) ≡ true = ap (λ z. is_right k.objects c z) (sym e) ∙ right in
+    let held = (and_parts (a % chunk_size c == 0) (list_any (λ o. holds o a (chunk_size c)) k.objects) right_at).1 in
+    let same : memory_of l ≡ record { objects = k.objects; cells = cells_put (memory_of k).cells c (Word a) v } = same_memory (memory_of l) (record { objects = k.objects; cells = cells_put (memory_of k).cells c (Word a) v }) p (λ x. ap (λ os. kept_cells os l.zeroed (written_at l.pages) x) p ∙ (ap (λ zs. kept_cells k.objects zs (written_at l.pages) x) q ∙ cells-put c a v k.objects k.zeroed (written_at k.pages) (written_at l.pages) held (λ y. w y ∙ (ap (λ n. if is_in a n y then Some (get_or bytes (y - a) Blank) else written_at k.pages y) (ap length b ∙ length-bytes_of c v) ∙ ap (λ z. if is_in a (chunk_size c) y then Some (get_or z (y - a) Blank) else written_at k.pages y) b)) x)) in
+    ap (λ z. put (memory_of k) c z v) e ∙ (cond-true (is_right k.objects c (Word a)) (Some (record { objects = k.objects; cells = cells_put (memory_of k).cells c (Word a) v })) None right_at ∙ ap (λ m. Some m) (sym same))
+
+-- where an access may be: in one page, and below the end of the addresses
+pub in_one_page : (c : Chunk) (a : ℕ) → a % chunk_size c ≡ 0 → a % 16384 + chunk_size c ≤ 16384
+in_one_page I8s a h = omega arith
+in_one_page I8u a h = omega arith
+in_one_page I16s a h = omega arith
+in_one_page I16u a h = omega arith
+in_one_page I32 a h = omega arith
+
+pub held_below : (low base size : ℕ) (os : List Object) → AreObjects low os → list_any (λ o. holds o base size) os ≡ true → base + size ≤ 2 ^ 32
+held_below low base size [] h e = absurd (false≢true e)
+held_below low base size (o ∷ os) h e = elim (or_cases (holds o base size) (list_any (λ o. holds o base size) os) e) as (λ _. base + size ≤ 2 ^ 32) [
+    | inl a ↦ (let last : base + size ≤ o.base + o.size = leb-true (base + size) (o.base + o.size) (and_parts (nat_le o.base base) (nat_le (base + size) (o.base + o.size)) a).1 in let top : o.base + o.size ≤ 2 ^ 32 = h.1.1 in omega arith)
+    | inr a ↦ held_below (o.base + o.size) base size os h.2 a
+  ]

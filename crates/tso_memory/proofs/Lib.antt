@@ -1,3 +1,4 @@
+pub mod Items
 pub mod KeptMemory
 pub mod ObjectLists
 pub mod PageLookups

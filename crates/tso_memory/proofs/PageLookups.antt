@@ -5,6 +5,8 @@ use Rattle.std.proofs.lemmas.Bool.{cases_lt, cases_eq, eq-eqb, ne_eqb, cond-true
 use Rattle.std.proofs.lemmas.Option.{same_Some, none-some}
 use Rattle.std.proofs.lemmas.Bool.Decides.{nat_tests}
 use Rattle.tso_words.specs.declared.value.Cell.{Cell}
+use Rattle.tso_words.specs.declared.value.Cell.TheVariants.{Blank}
+use Rattle.tso_memory.specs.Memory.{is_in}
 use Rattle.tso_memory.specs.Kept.{ArePages, cell_in}
 
 get_or-replicate_default : {X : Type 0} (k i : ℕ) (d : X) → get_or (replicate k d) i d ≡ d
@@ -197,3 +199,15 @@ module _ (t : List (Option ℕ)) (cs ws : List (Option Cell)) (n number p base e
 
   pub cell_in-forgotten : (y : ℕ) → cell_in ws (get_or t (y / 16384) None) (y % 16384) ≡ (if (y / 16384 == number) && (nat_le base y && nat_lt y end) then None else cell_in cs (get_or t (y / 16384) None) (y % 16384))
   cell_in-forgotten y = at_entry y (get_or t (y / 16384) None) refl
+
+-- a loop that writes cells one after another
+pub set_more : (cells : List Cell) (x k y : ℕ) (c : Cell) (new old first : Option Cell) → c ≡ get_or cells k Blank → new ≡ (if y == x + k then Some c else old) → old ≡ (if is_in x k y then Some (get_or cells (y - x) Blank) else first) → new ≡ (if is_in x (k + 1) y then Some (get_or cells (y - x) Blank) else first)
+set_more cells x k y c new old first e f g = elim (cases_eq y (x + k)) as (λ _. new ≡ (if is_in x (k + 1) y then Some (get_or cells (y - x) Blank) else first)) [
+    | inl q ↦ f ∙ (cond-true (y == x + k) (Some c) old (eq-eqb y (x + k) q) ∙ (ap (λ z. Some z) (e ∙ ap (λ i. get_or cells i Blank) (let i : k ≡ y - x = omega arith in i)) ∙ sym (cond-true (is_in x (k + 1) y) (Some (get_or cells (y - x) Blank)) first (inside x k y q))))
+    | inr q ↦ f ∙ (cond-false (y == x + k) (Some c) old (ne_eqb y (x + k) q) ∙ (g ∙ ap (λ b. if b then Some (get_or cells (y - x) Blank) else first) (beside x k y q)))
+  ]
+  where
+    inside : (x k y : ℕ) → y ≡ x + k → is_in x (k + 1) y ≡ true
+    inside x k y q = grind (arith, nat_tests)
+    beside : (x k y : ℕ) → (y ≡ x + k → ⊥) → is_in x k y ≡ is_in x (k + 1) y
+    beside x k y q = grind (arith, nat_tests)

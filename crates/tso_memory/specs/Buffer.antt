@@ -40,6 +40,15 @@ IsSoundItem (Put chunk addr val) = Unit {0}
 IsSoundItem (Place base size) = IsSound base size
 IsSoundItem (Lift base size) = Unit {0}
 
+abbrev pub AreSoundItems : List Item → Type 0
+AreSoundItems [] = Unit {0}
+AreSoundItems (i ∷ is) = IsSoundItem i × AreSoundItems is
+
+-- what a buffer means: its items, oldest first, and how many more need no memory
+pub record BufferMeaning : Type 0 where
+  pub items : List Item
+  pub spare : ℕ
+
 -- the item is the Lift of a whole range
 abbrev pub is_lift : (base size : ℕ) → Item → Bool
 is_lift base size (Put chunk addr val) = false

@@ -6,7 +6,9 @@ pub mod buffer;
 pub mod memory;
 pub mod object;
 pub mod pages;
+pub mod view;
 
-pub use buffer::Item;
+pub use buffer::{Buffer, Item};
 pub use memory::{ApplyRefusal, Memory, WrongAccess};
 pub use object::{Kind, Object};
+pub use view::view_load;

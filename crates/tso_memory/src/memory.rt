@@ -1,13 +1,13 @@
 //! Memory: live objects and their cells.
-ghost use Rattle.std.specs.Prelude.{◌≡◌, ◌≢◌, ℕ, ◌+◌, ◌≤◌, ◌↔◌, Some, None, [], OnOk, OnErr, IsOk, IsTrue, MatchResult, true, false, ◌==◌};
-ghost use Rattle.std.specs.List.{list_any};
-ghost use Rattle.tso_memory.specs.Memory.{IsSound, AreObjects, IsApart, is_right, load, put, added, only, is_in, unmet, lifted, removed};
+ghost use Rattle.std.specs.Prelude.{◌≡◌, ◌≢◌, ℕ, ◌+◌, ◌≤◌, ◌↔◌, Err, Some, None, [], OnOk, OnErr, IsOk, IsTrue, MatchResult, true, false, ◌==◌};
+ghost use Rattle.std.specs.List.{find, list_any};
+ghost use Rattle.tso_memory.specs.Memory.{IsSound, AreObjects, IsApart, holds, is_right, load, put, added, only, is_in, unmet, lifted, removed};
 ghost use Rattle.tso_memory.specs.Buffer.{applied, local, IsSoundItem};
 ghost use Rattle.tso_memory.specs.Kept.{memory_of, kept_at, empty};
 ghost use Rattle.tso_words.specs.declared.value.Cell.TheVariants.{Blank, Byte};
 
 use crate::buffer::Item;
-use crate::object::{Kind, Object, end_at, end_lifted, end_met, insert_object, is_held, is_live_at};
+use crate::object::{Kind, Object, end_at, end_lifted, end_met, find_object, insert_object, is_held, is_live_at};
 use crate::pages::Pages;
 use std::alloc::Global;
 use std::marker::Model;
@@ -84,8 +84,16 @@ impl Memory {
         base % size == 0 && is_held(&self.objects, base, size)
     }
 
+    /// The object that has all `size` bytes from `base` on.
+    pub(crate) fn holder(&self, base: u32, size: u32) -> Option<Object>
+        requires { 1 ≤ size }
+        ensures { result ≡ find (λ o. holds o base size) self.now.objects }
+    {
+        find_object(&self.objects, base, size)
+    }
+
     /// The cell at an address of a live object.
-    fn cell(&self, x: u32) -> Cell
+    pub(crate) fn cell(&self, x: u32) -> Cell
         ensures { result ≡ kept_at self.now x }
     {
         match self.pages.at(x) {
@@ -182,5 +190,47 @@ impl Memory {
     {
         end_lifted(&mut self.objects, base, size);
         end_lifted(&mut self.zeroed, base, size);
+    }
+
+    /// Writes the low bytes of a value.
+    fn put(&mut self, chunk: Chunk, addr: Val, val: Val) -> Result<(), ApplyRefusal>
+        ensures wrong { (result ≡ Err ApplyRefusal.Wrong) ↔ (put (memory_of self.old) chunk addr val ≡ None) }
+        ensures ok { OnOk result (put (memory_of self.old) chunk addr val ≡ Some (memory_of self.new)) }
+        ensures err { OnErr result (memory_of self.new ≡ memory_of self.old) }
+        ensures room { 1 ≤ self.old.spare → result ≢ Err ApplyRefusal.NoMemory }
+    {
+        if !self.is_right(chunk, addr) {
+            return Err(ApplyRefusal::Wrong);
+        }
+        let Val::Word(x) = addr else {
+            return Err(ApplyRefusal::Wrong);
+        };
+        if self.pages.open(x).is_err() {
+            return Err(ApplyRefusal::NoMemory);
+        }
+        let size = size_of_chunk(chunk) as usize;
+        self.pages.set_all(x, &bytes_of(chunk, val)[..size]);
+        Ok(())
+    }
+
+    /// Applies an item of a store buffer. After a refusal the memory is as it was.
+    pub fn apply(&mut self, item: &Item) -> Result<(), ApplyRefusal>
+        requires { IsSoundItem item.now }
+        ensures wrong { (result ≡ Err ApplyRefusal.Wrong) ↔ (applied (memory_of self.old) item.now ≡ None) }
+        ensures ok { OnOk result (applied (memory_of self.old) item.now ≡ Some (memory_of self.new)) }
+        ensures err { OnErr result (memory_of self.new ≡ memory_of self.old) }
+        ensures room { 1 ≤ self.old.spare → result ≢ Err ApplyRefusal.NoMemory }
+    {
+        match *item {
+            Item::Put { chunk, addr, val } => self.put(chunk, addr, val),
+            Item::Place { base, size } => match self.place(base, size) {
+                Ok(()) => Ok(()),
+                Err(NoMemory) => Err(ApplyRefusal::NoMemory),
+            },
+            Item::Lift { base, size } => {
+                self.lift(base, size);
+                Ok(())
+            }
+        }
     }
 }

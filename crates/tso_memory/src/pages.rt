@@ -1,7 +1,8 @@
 //! The cells of memory in pages: a table with an entry for each page number, and the pages one
 //! after another. A look-up takes the same time whatever the memory holds.
-ghost use Rattle.std.specs.Prelude.{◌≡◌, ℕ, ◌+◌, ◌*◌, ◌/◌, ◌^◌, ◌<◌, ◌≤◌, Some, None, length, IsOk, OnOk, IsTrue, ◌↔◌, if◌then◌else◌, ◌==◌, slice_index_or, nat_lt, nat_le, ◌&&◌};
+ghost use Rattle.std.specs.Prelude.{◌≡◌, ℕ, ◌+◌, ◌*◌, ◌/◌, ◌^◌, ◌-◌, ◌%◌, ◌<◌, ◌≤◌, Some, None, length, IsOk, OnOk, IsTrue, ◌↔◌, if◌then◌else◌, ◌==◌, slice_index_or, nat_lt, nat_le, ◌&&◌};
 ghost use Rattle.tso_memory.specs.Kept.{written_at, IsOpen};
+ghost use Rattle.tso_words.specs.declared.value.Cell.TheVariants.{Blank};
 ghost use Rattle.tso_memory.specs.Memory.{IsSound, is_in};
 
 use std::alloc::Global;
@@ -125,6 +126,18 @@ impl Pages {
         let number = (x as usize) / PAGE;
         if let Some(page) = self.table[number] {
             self.cells[page as usize * PAGE + (x as usize) % PAGE] = Some(cell);
+        }
+    }
+
+    /// Writes cells one after another into a page that is there.
+    pub fn set_all(&mut self, x: u32, cells: &[Cell])
+        requires open { IsOpen self.old x }
+        requires in_page { x % 16384 + length cells.now ≤ 16384 }
+        requires fits { x + length cells.now ≤ 2 ^ 32 }
+        ensures { (y : ℕ) → written_at self.new y ≡ (if is_in x (length cells.now) y then Some (slice_index_or cells.now (y - x) Blank) else written_at self.old y) }
+    {
+        for k in 0..cells.len() {
+            self.set(x + k as u32, cells[k]);
         }
     }
 
