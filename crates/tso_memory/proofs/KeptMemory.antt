@@ -161,7 +161,7 @@ cells-zeroed o os zs w v written =
     cells-added o (Byte 0) os zs (inserted o zs) w v written (λ x i. ap (λ b. if b then Byte 0 else Blank) (is_live-inserted o zs x ∙ ap (λ b. b || is_live zs x) i)) (λ x i. is_live-inserted o zs x ∙ ap (λ b. b || is_live zs x) i)
 
 -- objects that end
-live_filtered : (p : Object → Bool) (x : ℕ) (os : List Object) → is_live (filter p os) x ≡ true → is_live os x ≡ true
+pub live_filtered : (p : Object → Bool) (x : ℕ) (os : List Object) → is_live (filter p os) x ≡ true → is_live os x ≡ true
 live_filtered p x [] e = e
 live_filtered p x (o ∷ os) e = by_test (p o) (live_filtered p x os) e
   where
@@ -241,7 +241,7 @@ length-bytes_from v i (suc n) = ap suc (length-bytes_from v (suc i) n)
 pub length-bytes_of : (c : Chunk) (v : Val) → length (bytes_of c v) ≡ chunk_size c
 length-bytes_of c v = length-bytes_from v 0 (chunk_size c)
 
-get_or-bytes_of : (c : Chunk) (v : Val) (k : ℕ) → k < chunk_size c → get_or (bytes_of c v) k Blank ≡ byte_of v k
+pub get_or-bytes_of : (c : Chunk) (v : Val) (k : ℕ) → k < chunk_size c → get_or (bytes_of c v) k Blank ≡ byte_of v k
 get_or-bytes_of c v k h = let e : 0 + k ≡ k = omega arith in get_or-bytes_from v 0 (chunk_size c) k Blank h ∙ ap (byte_of v) e
 
 -- a right store

@@ -13,7 +13,7 @@ use Rattle.tso_words.specs.declared.value.Chunk.{Chunk}
 use Rattle.tso_words.specs.Words.{chunk_size, value_of}
 use Rattle.tso_memory.specs.declared.object.Object.{Object}
 use Rattle.tso_memory.specs.Kept.{Kept, kept_at, memory_of, written_at}
-use Rattle.tso_memory.specs.Memory.{IsSound, AreObjects, holds, is_in, is_live, is_met, meets, unmet, lifted, removed, inserted, cells_from, is_right, load, value_at}
+use Rattle.tso_memory.specs.Memory.{MemoryMeaning, IsSound, AreObjects, holds, is_in, is_live, is_met, meets, unmet, lifted, removed, inserted, cells_from, is_right, load, value_at}
 
 -- no object begins below the bound
 pub base_above : (low : ℕ) (os : List Object) → AreObjects low os → (j : ℕ) (d : Object) → j < length os → low ≤ (get_or os j d).base
@@ -39,7 +39,7 @@ parted_below low base os h i j d e l t = lt-ltb (get_or os i d).base base (let a
 holds_above : (o : Object) (base size : ℕ) → base < o.base → holds o base size ≡ false
 holds_above o base size h = and_left (nat_le o.base base) (nat_le (base + size) (o.base + o.size)) (lt-leb o.base base h)
 
-find_above : (low : ℕ) (os : List Object) (base size : ℕ) → AreObjects low os → base < low → None ≡ find (λ o. holds o base size) os
+pub find_above : (low : ℕ) (os : List Object) (base size : ℕ) → AreObjects low os → base < low → None ≡ find (λ o. holds o base size) os
 find_above low [] base size h l = refl
 find_above low (o ∷ os) base size h l =
     rw (holds_above o base size (omega (arith, h.0))) (find_above (o.base + o.size) os base size h.2 (omega (arith, h.0)))
@@ -138,11 +138,25 @@ cells_from-four f a =
     let e3 : suc (suc (suc a)) ≡ a + 3 = omega arith in
     ap (λ x. f a ∷ f x ∷ f (suc (suc a)) ∷ f (suc (suc (suc a))) ∷ []) e ∙ (ap (λ x. f a ∷ f (a + 1) ∷ f x ∷ f (suc (suc (suc a))) ∷ []) e2 ∙ ap (λ x. f a ∷ f (a + 1) ∷ f (a + 2) ∷ f x ∷ []) e3)
 
--- a right load, by the cells of an object
-pub load-kept : (k : Kept) (c : Chunk) (x : ℕ) (cells : List Cell) → is_right k.objects c (Word x) ≡ true → cells ≡ cells_from (kept_at k) x (chunk_size c) → load (memory_of k) c (Word x) ≡ Some (value_of c cells)
-load-kept k c x cells r e =
-    let held = (and_parts (x % chunk_size c == 0) (list_any (λ o. holds o x (chunk_size c)) k.objects) r).1 in
-    cond-true (is_right k.objects c (Word x)) (Some (value_at (memory_of k).cells c (Word x))) None r ∙ ap (λ l. Some (value_of c l)) (cells_from-same (memory_of k).cells (kept_at k) x (chunk_size c) (λ y l m. cond-true (is_live k.objects y) (kept_at k y) Blank (live_held x (chunk_size c) y k.objects held l m)) ∙ sym e)
+-- a right load, by cells that are known where they are live
+module _ (n : MemoryMeaning) (f : ℕ → Cell) (known : (y : ℕ) → is_live n.objects y ≡ true → n.cells y ≡ f y) where
+  load_by : (c : Chunk) (v r : Val) (x : ℕ) (cells : List Cell) → v ≡ Word x → is_right n.objects c v ≡ true → cells ≡ cells_from f x (chunk_size c) → r ≡ value_of c cells → load n c v ≡ Some r
+  load_by c v r x cells e t p q =
+      let right : is_right n.objects c (Word x) ≡ true = ap (λ w. is_right n.objects c w) (sym e) ∙ t in
+      let held = (and_parts (x % chunk_size c == 0) (list_any (λ o. holds o x (chunk_size c)) n.objects) right).1 in
+      ap (λ w. load n c w) e ∙ (cond-true (is_right n.objects c (Word x)) (Some (value_at n.cells c (Word x))) None right ∙ (ap (λ l. Some (value_of c l)) (cells_from-same n.cells f x (chunk_size c) (λ y l m. known y (live_held x (chunk_size c) y n.objects held l m)) ∙ sym p) ∙ ap (λ u. Some u) (sym q)))
+
+  pub loaded_one : (c : Chunk) (v r : Val) (x : ℕ) (a : Cell) → v ≡ Word x → is_right n.objects c v ≡ true → chunk_size c ≡ 1 → a ≡ f x → r ≡ value_of c (a ∷ []) → load n c v ≡ Some r
+  loaded_one c v r x a e t z p q = load_by c v r x (a ∷ []) e t (rw (z, p) refl) q
+
+  pub loaded_two : (c : Chunk) (v r : Val) (x : ℕ) (a b : Cell) → v ≡ Word x → is_right n.objects c v ≡ true → chunk_size c ≡ 2 → a ≡ f x → b ≡ f (x + 1) → r ≡ value_of c (a ∷ b ∷ []) → load n c v ≡ Some r
+  loaded_two c v r x a b e t z p p2 q = load_by c v r x (a ∷ b ∷ []) e t (rw z (rw (p, p2) (sym (cells_from-two f x)))) q
+
+  pub loaded_four : (c : Chunk) (v r : Val) (x : ℕ) (a b g h : Cell) → v ≡ Word x → is_right n.objects c v ≡ true → chunk_size c ≡ 4 → a ≡ f x → b ≡ f (x + 1) → g ≡ f (x + 2) → h ≡ f (x + 3) → r ≡ value_of c (a ∷ b ∷ g ∷ h ∷ []) → load n c v ≡ Some r
+  loaded_four c v r x a b g h e t z p p2 p3 p4 q = load_by c v r x (a ∷ b ∷ g ∷ h ∷ []) e t (rw z (rw (p, p2, p3, p4) (sym (cells_from-four f x)))) q
+
+pub kept_known : (k : Kept) (y : ℕ) → is_live k.objects y ≡ true → (memory_of k).cells y ≡ kept_at k y
+kept_known k y e = cond-true (is_live k.objects y) (kept_at k y) Blank e
 
 -- a test of an access by its parts
 pub right_from : (os : List Object) (c : Chunk) (v : Val) (a n : ℕ) (b : Bool) → v ≡ Word a → n ≡ chunk_size c → a % n ≡ 0 → b ≡ list_any (λ o. holds o a n) os → b ≡ is_right os c v
@@ -152,15 +166,13 @@ right_from os c v a n b e f g h = rw (e, ← f) (rw (eq-eqb (a % n) 0 g) h)
 pub kept_at-unwritten : (k : Kept) (x : ℕ) (w : Option Cell) (b : Bool) → w ≡ None → w ≡ written_at k.pages x → b ≡ is_live k.zeroed x → (if b then Byte 0 else Blank) ≡ kept_at k x
 kept_at-unwritten k x w b e f g = rw (← f, e, ← g) refl
 
--- loads of one, two and four bytes
-pub loaded_one : (k : Kept) (c : Chunk) (v r : Val) (x : ℕ) (a : Cell) → v ≡ Word x → is_right k.objects c v ≡ true → chunk_size c ≡ 1 → a ≡ kept_at k x → r ≡ value_of c (a ∷ []) → load (memory_of k) c v ≡ Some r
-loaded_one k c v r x a e t n p q = rw e (load-kept k c x (a ∷ []) (sym (ap (λ w. is_right k.objects c w) e) ∙ t) (rw (n, p) refl) ∙ ap (λ u. Some u) (sym q))
-
-pub loaded_two : (k : Kept) (c : Chunk) (v r : Val) (x : ℕ) (a b : Cell) → v ≡ Word x → is_right k.objects c v ≡ true → chunk_size c ≡ 2 → a ≡ kept_at k x → b ≡ kept_at k (x + 1) → r ≡ value_of c (a ∷ b ∷ []) → load (memory_of k) c v ≡ Some r
-loaded_two k c v r x a b e t n p p2 q = rw e (load-kept k c x (a ∷ b ∷ []) (sym (ap (λ w. is_right k.objects c w) e) ∙ t) (rw n (rw (p, p2) (sym (cells_from-two (kept_at k) x)))) ∙ ap (λ u. Some u) (sym q))
-
-pub loaded_four : (k : Kept) (c : Chunk) (v r : Val) (x : ℕ) (a b g h : Cell) → v ≡ Word x → is_right k.objects c v ≡ true → chunk_size c ≡ 4 → a ≡ kept_at k x → b ≡ kept_at k (x + 1) → g ≡ kept_at k (x + 2) → h ≡ kept_at k (x + 3) → r ≡ value_of c (a ∷ b ∷ g ∷ h ∷ []) → load (memory_of k) c v ≡ Some r
-loaded_four k c v r x a b g h e t n p p2 p3 p4 q = rw e (load-kept k c x (a ∷ b ∷ g ∷ h ∷ []) (sym (ap (λ w. is_right k.objects c w) e) ∙ t) (rw n (rw (p, p2, p3, p4) (sym (cells_from-four (kept_at k) x)))) ∙ ap (λ u. Some u) (sym q))
+-- the sizes of chunks
+pub size_positive : (c : Chunk) → 1 ≤ chunk_size c
+size_positive I8s = omega arith
+size_positive I8u = omega arith
+size_positive I16s = omega arith
+size_positive I16u = omega arith
+size_positive I32 = omega arith
 
 pub size_one : (c : Chunk) → (c ≡ I8s) ⊎ (c ≡ I8u) → chunk_size c ≡ 1
 size_one c (inl e) = ap chunk_size e

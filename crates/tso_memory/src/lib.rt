@@ -6,6 +6,7 @@ pub mod buffer;
 pub mod memory;
 pub mod object;
 pub mod pages;
+pub mod placing;
 pub mod view;
 
 pub use buffer::{Buffer, Item};

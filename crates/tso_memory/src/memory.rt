@@ -87,7 +87,8 @@ impl Memory {
     /// The object that has all `size` bytes from `base` on.
     pub(crate) fn holder(&self, base: u32, size: u32) -> Option<Object>
         requires { 1 ≤ size }
-        ensures { result ≡ find (λ o. holds o base size) self.now.objects }
+        ensures held { result ≡ find (λ o. holds o base size) self.now.objects }
+        ensures in_order { AreObjects 0 self.now.objects }
     {
         find_object(&self.objects, base, size)
     }

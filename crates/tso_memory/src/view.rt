@@ -4,7 +4,7 @@ ghost use Rattle.std.specs.List.{find, list_any};
 ghost use Rattle.tso_memory.specs.Memory.{is_right, holds};
 ghost use Rattle.tso_memory.specs.Buffer.{view, loaded, AreSoundItems, IsSoundItem};
 ghost use Rattle.tso_memory.specs.Kept.{memory_of, kept_at};
-ghost use Rattle.tso_memory.specs.Through.{holder_after, holder_through, cell_after, cell_through, objects_after, all_right};
+ghost use Rattle.tso_memory.specs.Through.{holder_after, holder_through, cell_after, cell_through, objects_after, is_right_item, all_right};
 
 use crate::buffer::{Buffer, Item};
 use crate::memory::{Memory, WrongAccess};
@@ -39,16 +39,25 @@ fn holder_after(item: &Item, base: u32, size: u32, holder: Option<Object>) -> Op
     }
 }
 
+/// The cell at an address after a store, where `cell` is the one before it.
+fn cell_after_put(chunk: Chunk, addr: Val, val: Val, x: u32, cell: Cell) -> Cell
+    ensures { result ≡ cell_after (Item.Put chunk addr val) x cell }
+{
+    let Val::Word(a) = addr else {
+        return cell;
+    };
+    if x < a || x - a >= size_of_chunk(chunk) {
+        return cell;
+    }
+    bytes_of(chunk, val)[(x - a) as usize]
+}
+
 /// The cell at an address after an item, where `cell` is the one before it.
 fn cell_after(item: &Item, x: u32, cell: Cell) -> Cell
     ensures { result ≡ cell_after item.now x cell }
 {
     match *item {
-        Item::Put {
-            chunk,
-            addr: Val::Word(a),
-            val,
-        } if a <= x && x - a < size_of_chunk(chunk) => bytes_of(chunk, val)[(x - a) as usize],
+        Item::Put { chunk, addr, val } => cell_after_put(chunk, addr, val, x, cell),
         Item::Place { base, size } if base <= x && x - base < size => Cell::Blank,
         _ => cell,
     }
@@ -76,16 +85,25 @@ fn is_right_behind(m: &Memory, items: &[Item], chunk: Chunk, addr: Val) -> bool
     }
 }
 
+/// Whether an item is no store, or one that is right behind these items.
+fn is_right_item(m: &Memory, front: &[Item], item: &Item) -> bool
+    requires { AreSoundItems front.now }
+    ensures { result ≡ is_right_item (objects_after m.now.objects front.now) item.now }
+{
+    match *item {
+        Item::Put { chunk, addr, .. } => is_right_behind(m, front, chunk, addr),
+        Item::Place { .. } | Item::Lift { .. } => true,
+    }
+}
+
 /// Whether each store among the items is right in its turn.
 fn are_right(m: &Memory, items: &[Item]) -> bool
     requires { AreSoundItems items.now }
     ensures { result ≡ all_right m.now.objects items.now }
 {
-    for (k, item) in items.iter().enumerate() {
-        if let Item::Put { chunk, addr, .. } = *item {
-            if !is_right_behind(m, &items[..k], chunk, addr) {
-                return false;
-            }
+    for k in 0..items.len() {
+        if !is_right_item(m, &items[..k], &items[k]) {
+            return false;
         }
     }
     true
@@ -112,7 +130,10 @@ pub fn view_load(m: &Memory, b: &Buffer, chunk: Chunk, addr: Val) -> Result<Val,
     ensures { MatchResult result (λ v. loaded (view (memory_of m.now) b.now.items) chunk addr ≡ Some v) (λ _. loaded (view (memory_of m.now) b.now.items) chunk addr ≡ None) }
 {
     let items = b.items();
-    if !are_right(m, items) || !is_right_behind(m, items, chunk, addr) {
+    if !are_right(m, items) {
+        return Err(WrongAccess);
+    }
+    if !is_right_behind(m, items, chunk, addr) {
         return Err(WrongAccess);
     }
     let Val::Word(x) = addr else {
