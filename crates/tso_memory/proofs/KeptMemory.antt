@@ -1,8 +1,8 @@
 -- What the fields of a memory stand for after objects come and go and cells are written.
-use Rattle.std.proofs.Common.{◌≡◌, ◌≢◌, ℕ, zero, suc, ◌+◌, ◌-◌, ◌*◌, ◌%◌, ◌^◌, ◌<◌, ◌≤◌, Bool, true, false, not, List, [], ◌∷◌, ◌++◌, length, get_or, Option, Some, None, refl, sym, ap, ◌∙◌, subst, inl, inr, ◌⊎◌, arith, if◌then◌else◌, ◌==◌, ◌&&◌, ◌||◌, nat_le, nat_lt, cond, rules}
-use Rattle.std.specs.List.{find, filter, list_any}
+use Rattle.std.proofs.Common.{◌≡◌, ℕ, zero, suc, ◌+◌, ◌-◌, ◌%◌, ◌^◌, ◌<◌, ◌≤◌, Bool, true, false, not, List, [], ◌∷◌, length, get_or, Option, Some, None, refl, sym, ap, ◌∙◌, subst, inl, inr, arith, if◌then◌else◌, ◌==◌, ◌||◌, nat_le, nat_lt, cond}
+use Rattle.std.specs.List.{filter, list_any}
 use Rattle.std.specs.Option.{unwrap_or}
-use Rattle.std.proofs.lemmas.Bool.{cases_lt, cases_eq, cases_Bool, lt-ltb, le-ltb, le-leb, lt-leb, leb-true, leb-false, ltb-true, ltb-false, cond-true, cond-false, cond_both, or_from, and_left, and_right, and_parts, and_from, or_parts, or_cases, or_right, false≢true, true≢false}
+use Rattle.std.proofs.lemmas.Bool.{le-ltb, lt-leb, leb-true, ltb-true, ltb-false, cond-true, cond-false, cond_both, or_from, and_left, and_parts, or_parts, or_cases, or_right, false≢true, true≢false}
 use Rattle.std.proofs.lemmas.Bool.Decides.{nat_tests}
 use Rattle.tso_words.specs.declared.value.Cell.{Cell}
 use Rattle.tso_words.specs.declared.value.Cell.TheVariants.{Blank, Byte}
@@ -12,7 +12,7 @@ use Rattle.tso_words.specs.declared.value.Chunk.{Chunk}
 use Rattle.tso_words.specs.declared.value.Chunk.TheVariants.{I8s, I8u, I16s, I16u, I32}
 use Rattle.tso_words.specs.Words.{chunk_size, byte_of, bytes_from, bytes_of}
 use Rattle.tso_memory.specs.declared.object.Object.{Object}
-use Rattle.tso_memory.specs.Memory.{MemoryMeaning, IsSound, AreObjects, holds, is_in, is_live, is_met, meets, unmet, lifted, removed, inserted, added, only, IsApart, is_right, put, cells_put}
+use Rattle.tso_memory.specs.Memory.{MemoryMeaning, IsSound, AreObjects, holds, is_in, is_live, is_met, meets, unmet, inserted, added, only, IsApart, is_right, put, cells_put}
 use Rattle.tso_memory.proofs.ObjectLists.{live_held}
 use Rattle.tso_memory.specs.Kept.{Within, WithinNone, WithinBoth, WithinMore, IsKept, Kept, KeptPages, memory_of, written_at}
 
@@ -115,9 +115,9 @@ inside_below b n x h = grind (arith, nat_tests)
 pub live_within : (x : ℕ) (zs os : List Object) → Within zs os → is_live zs x ≡ true → is_live os x ≡ true
 live_within x _ _ WithinNone e = e
 live_within x _ _ (WithinBoth {o = o} {xs = zs} {ys = os} w) e = elim (or_cases (is_in o.base o.size x) (is_live zs x) e) as (λ _. (is_in o.base o.size x || is_live os x) ≡ true) [
-    | inl a ↦ rw a refl
-    | inr a ↦ or_right (is_in o.base o.size x) (is_live os x) (live_within x zs os w a)
-  ]
+  | inl a ↦ rw a refl
+  | inr a ↦ or_right (is_in o.base o.size x) (is_live os x) (live_within x zs os w a)
+]
 live_within x _ _ (WithinMore {o = o} {xs = zs} {ys = os} w) e = or_right (is_in o.base o.size x) (is_live os x) (live_within x zs os w e)
 
 -- the objects that stay began as they did
@@ -251,6 +251,7 @@ cells-put c a v os zs w u held written x =
   where
     inside_parts : (b n x : ℕ) → is_in b n x ≡ true → (b ≤ x) × (x < b + n)
     inside_parts b n x e = let p = and_parts (nat_le b x) (nat_lt x (b + n)) e in (leb-true b x p.0, ltb-true x (b + n) p.1)
+
     by_test : (b : Bool) → (b ≡ true → is_live os x ≡ true) → (b ≡ true → get_or (bytes_of c v) (x - a) Blank ≡ byte_of v (x - a)) → (if is_live os x then unwrap_or (if b then Some (get_or (bytes_of c v) (x - a) Blank) else w x) (if is_live zs x then Byte 0 else Blank) else Blank) ≡ (if b then byte_of v (x - a) else kept_cells os zs w x)
     by_test true live byte = ap (λ z. if z then get_or (bytes_of c v) (x - a) Blank else Blank) (live refl) ∙ byte refl
     by_test false live byte = refl
@@ -273,6 +274,6 @@ in_one_page I32 a h = omega arith
 pub held_below : (low base size : ℕ) (os : List Object) → AreObjects low os → list_any (λ o. holds o base size) os ≡ true → base + size ≤ 2 ^ 32
 held_below low base size [] h e = absurd (false≢true e)
 held_below low base size (o ∷ os) h e = elim (or_cases (holds o base size) (list_any (λ o. holds o base size) os) e) as (λ _. base + size ≤ 2 ^ 32) [
-    | inl a ↦ (let last : base + size ≤ o.base + o.size = leb-true (base + size) (o.base + o.size) (and_parts (nat_le o.base base) (nat_le (base + size) (o.base + o.size)) a).1 in let top : o.base + o.size ≤ 2 ^ 32 = h.1.1 in omega arith)
-    | inr a ↦ held_below (o.base + o.size) base size os h.2 a
-  ]
+  | inl a ↦ (let last : base + size ≤ o.base + o.size = leb-true (base + size) (o.base + o.size) (and_parts (nat_le o.base base) (nat_le (base + size) (o.base + o.size)) a).1 in let top : o.base + o.size ≤ 2 ^ 32 = h.1.1 in omega arith)
+  | inr a ↦ held_below (o.base + o.size) base size os h.2 a
+]

@@ -1,8 +1,8 @@
 -- Lists of objects in order: searches, insertions and filters.
-use Rattle.std.proofs.Common.{◌≡◌, ◌≢◌, ℕ, zero, suc, ◌+◌, ◌-◌, ◌*◌, ◌^◌, ◌<◌, ◌≤◌, Bool, true, false, not, List, [], ◌∷◌, ◌++◌, length, get_or, take, drop, Option, Some, None, refl, sym, ap, ◌∙◌, subst, inl, inr, ◌⊎◌, arith, if◌then◌else◌, ◌==◌, ◌&&◌, ◌||◌, ◌%◌, nat_le, nat_lt, cond, is_some, rules}
-use Rattle.std.specs.List.{find, filter, list_any}
+use Rattle.std.proofs.Common.{◌≡◌, ℕ, zero, suc, ◌+◌, ◌-◌, ◌<◌, ◌≤◌, Bool, true, false, List, [], ◌∷◌, ◌++◌, length, get_or, take, drop, Option, Some, None, refl, sym, ap, ◌∙◌, inl, inr, ◌⊎◌, arith, if◌then◌else◌, ◌==◌, ◌&&◌, ◌||◌, ◌%◌, nat_le, nat_lt, cond, is_some}
+use Rattle.std.specs.List.{find, list_any}
 use Rattle.std.specs.List.Sorted.{IsPartitionedBy, IsPartitionPoint}
-use Rattle.std.proofs.lemmas.Bool.{cases_lt, cases_eq, cases_Bool, lt-ltb, le-ltb, le-leb, lt-leb, leb-true, leb-false, ltb-true, ltb-false, eq-eqb, cond-true, cond-false, and_left, and_right, and_parts, or_parts, or_cases, or_right}
+use Rattle.std.proofs.lemmas.Bool.{lt-ltb, le-ltb, le-leb, lt-leb, leb-true, leb-false, ltb-true, ltb-false, eq-eqb, cond-true, and_left, and_right, and_parts, or_cases, or_right}
 use Rattle.std.proofs.lemmas.Bool.Decides.{nat_tests}
 use Rattle.tso_words.specs.declared.value.Cell.{Cell}
 use Rattle.tso_words.specs.declared.value.Cell.TheVariants.{Blank, Byte}
@@ -13,7 +13,7 @@ use Rattle.tso_words.specs.declared.value.Chunk.{Chunk}
 use Rattle.tso_words.specs.Words.{chunk_size, value_of}
 use Rattle.tso_memory.specs.declared.object.Object.{Object}
 use Rattle.tso_memory.specs.Kept.{Kept, kept_at, memory_of, written_at}
-use Rattle.tso_memory.specs.Memory.{MemoryMeaning, IsSound, AreObjects, holds, is_in, is_live, is_met, meets, unmet, lifted, removed, inserted, cells_from, is_right, load, value_at}
+use Rattle.tso_memory.specs.Memory.{MemoryMeaning, AreObjects, holds, is_in, is_live, inserted, cells_from, is_right, load, value_at}
 
 -- no object begins below the bound
 pub base_above : (low : ℕ) (os : List Object) → AreObjects low os → (j : ℕ) (d : Object) → j < length os → low ≤ (get_or os j d).base
@@ -106,6 +106,7 @@ is_live-find (o ∷ os) x = by_test (holds o x 1) (same o.base o.size) (is_live-
   where
     same : (b n : ℕ) → (nat_le b x && nat_le (x + 1) (b + n)) ≡ is_in b n x
     same b n = grind (arith, nat_tests)
+
     by_test : (b : Bool) → b ≡ is_in o.base o.size x → is_some (find (λ o. holds o x 1) os) ≡ is_live os x → is_some (cond b (Some o) (find (λ o. holds o x 1) os)) ≡ (is_in o.base o.size x || is_live os x)
     by_test true e h = ap (λ z. z || is_live os x) e
     by_test false e h = h ∙ ap (λ z. z || is_live os x) e
@@ -114,9 +115,9 @@ is_live-find (o ∷ os) x = by_test (holds o x 1) (same o.base o.size) (is_live-
 pub live_held : (base size x : ℕ) (os : List Object) → list_any (λ o. holds o base size) os ≡ true → base ≤ x → x < base + size → is_live os x ≡ true
 live_held base size x [] h l m = h
 live_held base size x (o ∷ os) h l m = elim (or_cases (holds o base size) (list_any (λ o. holds o base size) os) h) as (λ _. is_live (o ∷ os) x ≡ true) [
-    | inl a ↦ rw (inside o.base o.size a) refl
-    | inr a ↦ or_right (is_in o.base o.size x) (is_live os x) (live_held base size x os a l m)
-  ]
+  | inl a ↦ rw (inside o.base o.size a) refl
+  | inr a ↦ or_right (is_in o.base o.size x) (is_live os x) (live_held base size x os a l m)
+]
   where
     inside : (b n : ℕ) → (nat_le b base && nat_le (base + size) (b + n)) ≡ true → is_in b n x ≡ true
     inside b n h = grind (arith, nat_tests)

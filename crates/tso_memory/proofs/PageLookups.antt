@@ -1,5 +1,5 @@
 -- Pages: what a look-up finds after the table or the pages grow, and after a write.
-use Rattle.std.proofs.Common.{◌≡◌, ◌≢◌, ℕ, suc, ◌+◌, ◌-◌, ◌*◌, ◌/◌, ◌%◌, ◌<◌, ◌≤◌, Bool, true, false, List, [], ◌∷◌, ◌++◌, length, get_or, set, take, replicate, Option, Some, None, refl, sym, ap, ◌∙◌, subst, inl, inr, ◌⊎◌, arith, IsSome, is_some, if◌then◌else◌, ◌==◌, ◌&&◌, nat_le, nat_lt, min, max, cond, rules, length-append, length-set}
+use Rattle.std.proofs.Common.{◌≡◌, ◌≢◌, ℕ, ◌+◌, ◌-◌, ◌*◌, ◌/◌, ◌%◌, ◌<◌, ◌≤◌, Bool, true, false, List, ◌++◌, length, get_or, set, take, replicate, Option, Some, None, refl, sym, ap, ◌∙◌, subst, inl, inr, ◌⊎◌, arith, IsSome, if◌then◌else◌, ◌==◌, ◌&&◌, nat_le, nat_lt, min, max, rules}
 use Rattle.std.proofs.lemmas.List.{take_all, get_or_append_left, get_or_past, get_or-set_same, get_or-set_other, get_or-append_right, get_or-replicate, get_or_read, length-replicate}
 use Rattle.std.proofs.lemmas.Bool.{cases_lt, cases_eq, eq-eqb, ne_eqb, cond-true, cond-false}
 use Rattle.std.proofs.lemmas.Option.{same_Some, none-some}
@@ -133,31 +133,32 @@ blank_more cs ds from i k h g e =
   where
     within : (from i : ℕ) → from ≤ i → (o : Option Cell) → None ≡ (if nat_le from i && nat_lt i (i + 1) then None else o)
     within from i g o = grind (arith, nat_tests)
+
     beside : (from i k : ℕ) (o : Option Cell) → k ≢ i → (if nat_le from k && nat_lt k i then None else o) ≡ (if nat_le from k && nat_lt k (i + 1) then None else o)
     beside from i k o q = grind (arith, nat_tests)
 
 -- a loop over pages that forgets a range
 pub forget_none : (base end y : ℕ) (o : Option Cell) → base < end → o ≡ (if (nat_le base y && nat_lt y end) && nat_lt (y / 16384) (base / 16384) then None else o)
 forget_none base end y o h = elim (cases_lt y base) as (λ _. o ≡ (if (nat_le base y && nat_lt y end) && nat_lt (y / 16384) (base / 16384) then None else o)) [
-    | inl a ↦ grind (arith, nat_tests)
-    | inr b ↦ (let le : base / 16384 ≤ y / 16384 = omega arith in grind (arith, nat_tests))
-  ]
+  | inl a ↦ grind (arith, nat_tests)
+  | inr b ↦ (let le : base / 16384 ≤ y / 16384 = omega arith in grind (arith, nat_tests))
+]
 
 pub forget_more : (base end number y q : ℕ) (a b o : Option Cell) → b ≡ (if (nat_le base y && nat_lt y end) && nat_lt q number then None else o) → a ≡ (if (q == number) && (nat_le base y && nat_lt y end) then None else b) → a ≡ (if (nat_le base y && nat_lt y end) && nat_lt q (number + 1) then None else o)
 forget_more base end number y q a b o e f = grind (arith, nat_tests)
 
 pub forget_all : (base end y : ℕ) (o : Option Cell) → base < end → (if (nat_le base y && nat_lt y end) && nat_lt (y / 16384) ((end - 1) / 16384 + 1) then None else o) ≡ (if nat_le base y && nat_lt y end then None else o)
 forget_all base end y o h = elim (cases_lt y end) as (λ _. (if (nat_le base y && nat_lt y end) && nat_lt (y / 16384) ((end - 1) / 16384 + 1) then None else o) ≡ (if nat_le base y && nat_lt y end then None else o)) [
-    | inl a ↦ (let le : y / 16384 < (end - 1) / 16384 + 1 = omega arith in grind (arith, nat_tests))
-    | inr b ↦ grind (arith, nat_tests)
-  ]
+  | inl a ↦ (let le : y / 16384 < (end - 1) / 16384 + 1 = omega arith in grind (arith, nat_tests))
+  | inr b ↦ grind (arith, nat_tests)
+]
 
 -- the part of a range in one page
 in_part : (base end first o : ℕ) → o < 16384 → base < first + 16384 → first < end → (nat_le (max base first - first) o && nat_lt o (min end (first + 16384) - first)) ≡ (nat_le base (first + o) && nat_lt (first + o) end)
 in_part base end first o h g f = elim (cases_lt base first) as (λ _. (nat_le (max base first - first) o && nat_lt o (min end (first + 16384) - first)) ≡ (nat_le base (first + o) && nat_lt (first + o) end)) [
-    | inl a ↦ (let m : max base first - first ≡ 0 = omega arith in part_of (max base first - first) (min end (first + 16384) - first) base end first o (omega arith) (omega arith) (omega arith) (omega arith))
-    | inr a ↦ part_of (max base first - first) (min end (first + 16384) - first) base end first o (omega arith) (omega arith) (omega arith) (omega arith)
-  ]
+  | inl a ↦ (let m : max base first - first ≡ 0 = omega arith in part_of (max base first - first) (min end (first + 16384) - first) base end first o (omega arith) (omega arith) (omega arith) (omega arith))
+  | inr a ↦ part_of (max base first - first) (min end (first + 16384) - first) base end first o (omega arith) (omega arith) (omega arith) (omega arith)
+]
   where
     part_of : (low high base end first o : ℕ) → (low ≤ o → base ≤ first + o) → (base ≤ first + o → low ≤ o) → (o < high → first + o < end) → (first + o < end → o < high) → (nat_le low o && nat_lt o high) ≡ (nat_le base (first + o) && nat_lt (first + o) end)
     part_of low high base end first o a b c d = grind (arith, nat_tests)
@@ -203,11 +204,12 @@ module _ (t : List (Option ℕ)) (cs ws : List (Option Cell)) (n number p base e
 -- a loop that writes cells one after another
 pub set_more : (cells : List Cell) (x k y : ℕ) (c : Cell) (new old first : Option Cell) → c ≡ get_or cells k Blank → new ≡ (if y == x + k then Some c else old) → old ≡ (if is_in x k y then Some (get_or cells (y - x) Blank) else first) → new ≡ (if is_in x (k + 1) y then Some (get_or cells (y - x) Blank) else first)
 set_more cells x k y c new old first e f g = elim (cases_eq y (x + k)) as (λ _. new ≡ (if is_in x (k + 1) y then Some (get_or cells (y - x) Blank) else first)) [
-    | inl q ↦ f ∙ (cond-true (y == x + k) (Some c) old (eq-eqb y (x + k) q) ∙ (ap (λ z. Some z) (e ∙ ap (λ i. get_or cells i Blank) (let i : k ≡ y - x = omega arith in i)) ∙ sym (cond-true (is_in x (k + 1) y) (Some (get_or cells (y - x) Blank)) first (inside x k y q))))
-    | inr q ↦ f ∙ (cond-false (y == x + k) (Some c) old (ne_eqb y (x + k) q) ∙ (g ∙ ap (λ b. if b then Some (get_or cells (y - x) Blank) else first) (beside x k y q)))
-  ]
+  | inl q ↦ f ∙ (cond-true (y == x + k) (Some c) old (eq-eqb y (x + k) q) ∙ (ap (λ z. Some z) (e ∙ ap (λ i. get_or cells i Blank) (let i : k ≡ y - x = omega arith in i)) ∙ sym (cond-true (is_in x (k + 1) y) (Some (get_or cells (y - x) Blank)) first (inside x k y q))))
+  | inr q ↦ f ∙ (cond-false (y == x + k) (Some c) old (ne_eqb y (x + k) q) ∙ (g ∙ ap (λ b. if b then Some (get_or cells (y - x) Blank) else first) (beside x k y q)))
+]
   where
     inside : (x k y : ℕ) → y ≡ x + k → is_in x (k + 1) y ≡ true
     inside x k y q = grind (arith, nat_tests)
+
     beside : (x k y : ℕ) → (y ≡ x + k → ⊥) → is_in x k y ≡ is_in x (k + 1) y
     beside x k y q = grind (arith, nat_tests)

@@ -1,8 +1,8 @@
 -- The view, item by item: its objects, the object with a range, and one cell.
-use Rattle.std.proofs.Common.{◌≡◌, ◌≢◌, ℕ, zero, suc, ◌+◌, ◌-◌, ◌%◌, ◌^◌, ◌<◌, ◌≤◌, Bool, true, false, not, List, [], ◌∷◌, ◌++◌, length, get_or, take, drop, replicate, Option, Some, None, refl, sym, ap, ◌∙◌, subst, inl, inr, ◌⊎◌, arith, if◌then◌else◌, ◌==◌, ◌&&◌, ◌||◌, nat_le, nat_lt, cond, is_some, rules}
+use Rattle.std.proofs.Common.{◌≡◌, ℕ, zero, suc, ◌+◌, ◌-◌, ◌%◌, ◌<◌, ◌≤◌, Bool, true, false, not, List, [], ◌∷◌, ◌++◌, length, get_or, take, drop, replicate, Option, Some, None, refl, sym, ap, ◌∙◌, arith, if◌then◌else◌, ◌&&◌, ◌||◌, nat_le, nat_lt, cond, is_some}
 use Rattle.std.specs.List.{find, filter, list_any}
 use Rattle.std.proofs.lemmas.List.{get_or_append_left, take_more, drop_more, drop_all}
-use Rattle.std.proofs.lemmas.Bool.{cases_lt, cases_eq, cases_Bool, lt-ltb, le-ltb, le-leb, lt-leb, leb-true, leb-false, ltb-true, ltb-false, eq-eqb, cond-true, cond-false, cond_both, and_left, and_right, and_parts, and_from, or_parts, or_cases, or_right, or_from, false≢true, true≢false}
+use Rattle.std.proofs.lemmas.Bool.{leb-true, eq-eqb, cond-true, cond-false, and_parts, or_parts, false≢true, true≢false}
 use Rattle.std.proofs.lemmas.Bool.Decides.{nat_tests}
 use Rattle.tso_words.specs.declared.value.Val.{Val}
 use Rattle.tso_words.specs.declared.value.Val.TheVariants.{Undef, Word}
@@ -13,7 +13,7 @@ use Rattle.tso_words.specs.Words.{chunk_size, byte_of, bytes_of, value_of}
 use Rattle.tso_memory.specs.declared.object.Object.{Object}
 use Rattle.tso_memory.specs.declared.buffer.Item.{Item}
 use Rattle.tso_memory.specs.declared.buffer.Item.TheVariants.{Put, Place, Lift}
-use Rattle.tso_memory.specs.Memory.{MemoryMeaning, IsSound, IsApart, AreObjects, holds, is_in, is_live, is_met, is_at, meets, is_right, unmet, lifted, inserted, added, only, put, load, cells_put, value_at}
+use Rattle.tso_memory.specs.Memory.{MemoryMeaning, IsApart, AreObjects, holds, is_in, is_live, is_met, is_at, meets, is_right, unmet, lifted, inserted, added, only, cells_put, value_at}
 use Rattle.tso_memory.specs.Buffer.{local, applied, and_then, view, loaded, IsSoundItem, AreSoundItems}
 use Rattle.tso_memory.specs.Kept.{Kept, kept_at, memory_of}
 use Rattle.tso_memory.specs.Through.{objects_at, objects_after, is_right_item, all_right, unless, holder_after, holder_through, cell_after, cell_through}
@@ -32,8 +32,10 @@ find-filter t low base size (o ∷ os) h s =
   where
     inside : (b n : ℕ) → (nat_le b base && nat_le (base + size) (b + n)) ≡ true → base < b + n
     inside b n e = let last : base + size ≤ b + n = leb-true (base + size) (b + n) (and_parts (nat_le b base) (nat_le (base + size) (b + n)) e).1 in omega arith
+
     gone : base < o.base + o.size → None ≡ find (λ o. holds o base size) (filter (λ o. not (t o)) os)
     gone l = find_above (o.base + o.size) (filter (λ o. not (t o)) os) base size (AreObjects-filter (λ o. not (t o)) (o.base + o.size) os h.2) l
+
     by_tests : (b d : Bool) → holds o base size ≡ b → t o ≡ d → find (λ o. holds o base size) (filter (λ o. not (t o)) os) ≡ unless t (find (λ o. holds o base size) os) → (holds o base size ≡ true → None ≡ find (λ o. holds o base size) (filter (λ o. not (t o)) os)) → find (λ o. holds o base size) (cond (not d) (o ∷ filter (λ o. not (t o)) os) (filter (λ o. not (t o)) os)) ≡ unless t (cond b (Some o) (find (λ o. holds o base size) os))
     by_tests true true e g ih gone_then = rw g (sym (gone_then e))
     by_tests true false e g ih gone_then = rw (g, e) refl
@@ -48,6 +50,7 @@ find-inserted o base size (p ∷ ps) a s =
   where
     apart : (b n c k : ℕ) → meets b n c k ≡ false → (nat_le b base && nat_le (base + size) (b + n)) ≡ true → (nat_le c base && nat_le (base + size) (c + k)) ≡ true → ⊥
     apart b n c k m e f = grind (arith, nat_tests)
+
     by_tests : (b d e : Bool) → holds p base size ≡ d → holds o base size ≡ e → find (λ p. holds p base size) (inserted o ps) ≡ (if e then Some o else find (λ p. holds p base size) ps) → (holds p base size ≡ true → holds o base size ≡ true → ⊥) → find (λ p. holds p base size) (cond b (p ∷ inserted o ps) (o ∷ p ∷ ps)) ≡ (if e then Some o else cond d (Some p) (find (λ p. holds p base size) ps))
     by_tests true true true f g ih clash = absurd (clash f g)
     by_tests true true false f g ih clash = rw f refl
@@ -126,28 +129,34 @@ pub record IsAfter (m n : MemoryMeaning) (i : Item) : Type 0 where
 
 after_item : (i : Item) (m : MemoryMeaning) → is_right_item m.objects i ≡ true → (n : MemoryMeaning) × IsAfter m n i
 after_item (Put c Undef v) m r = absurd (false≢true r)
-after_item (Put c (Word a) v) m r =
-    (record m { cells = cells_put m.cells c (Word a) v }, record {
-      applied_is = cond-true (is_right m.objects c (Word a)) (Some (record m { cells = cells_put m.cells c (Word a) v })) None r;
-      objects = refl;
-      cells = λ x cell known live. ap (λ z. if is_in a (chunk_size c) x then byte_of v (x - a) else z) (known live);
-    })
-after_item (Place b k) m r =
-    (added (local b k) Blank (only (unmet b k m.objects) m), record {
-      applied_is = refl;
-      objects = refl;
-      cells = λ x cell known live. placed (is_in b k x) x cell known (sym (is_live-inserted (local b k) (unmet b k m.objects) x) ∙ live);
-    })
+after_item (Put c (Word a) v) m r = (
+  record m { cells = cells_put m.cells c (Word a) v },
+  record {
+    applied_is = cond-true (is_right m.objects c (Word a)) (Some (record m { cells = cells_put m.cells c (Word a) v })) None r;
+    objects = refl;
+    cells = λ x cell known live. ap (λ z. if is_in a (chunk_size c) x then byte_of v (x - a) else z) (known live);
+  },
+)
+after_item (Place b k) m r = (
+  added (local b k) Blank (only (unmet b k m.objects) m),
+  record {
+    applied_is = refl;
+    objects = refl;
+    cells = λ x cell known live. placed (is_in b k x) x cell known (sym (is_live-inserted (local b k) (unmet b k m.objects) x) ∙ live);
+  },
+)
   where
     placed : (t : Bool) (x : ℕ) (cell : Cell) → (is_live m.objects x ≡ true → m.cells x ≡ cell) → (t || is_live (unmet b k m.objects) x) ≡ true → (if t then Blank else (if is_live (unmet b k m.objects) x then m.cells x else Blank)) ≡ (if t then Blank else cell)
     placed true x cell known live = refl
     placed false x cell known live = cond-true (is_live (unmet b k m.objects) x) (m.cells x) Blank live ∙ known (live_filtered (λ o. not (is_met b k o)) x m.objects live)
-after_item (Lift b k) m r =
-    (only (lifted b k m.objects) m, record {
-      applied_is = refl;
-      objects = refl;
-      cells = λ x cell known live. cond-true (is_live (lifted b k m.objects) x) (m.cells x) Blank live ∙ known (live_filtered (λ o. not (is_at b k o)) x m.objects live);
-    })
+after_item (Lift b k) m r = (
+  only (lifted b k m.objects) m,
+  record {
+    applied_is = refl;
+    objects = refl;
+    cells = λ x cell known live. cond-true (is_live (lifted b k m.objects) x) (m.cells x) Blank live ∙ known (live_filtered (λ o. not (is_at b k o)) x m.objects live);
+  },
+)
 
 wrong_item : (i : Item) (m : MemoryMeaning) → is_right_item m.objects i ≡ false → applied m i ≡ None
 wrong_item (Put c a v) m r = cond-false (is_right m.objects c a) (Some (record m { cells = cells_put m.cells c a v })) None r
@@ -160,11 +169,14 @@ view_known [] m r = (m, refl, record { objects = refl; cells = λ x cell known l
 view_known (i ∷ is) m r =
     let parts = and_parts (is_right_item m.objects i) (all_right (objects_at i m.objects) is) r in
     let first = after_item i m parts.0 in
-    let rest = view_known is first.0 (ap (λ os. all_right os is) first.1.objects ∙ parts.1) in
-    (rest.0, ap (λ o. and_then o (λ n. view n is)) first.1.applied_is ∙ rest.1, record {
-      objects = rest.2.objects ∙ ap (λ os. objects_after os is) first.1.objects;
-      cells = λ x cell known live. rest.2.cells x (cell_after i x cell) (λ e. first.1.cells x cell known e) live;
-    })
+    let rest = view_known is first.0 (ap (λ os. all_right os is) first.1.objects ∙ parts.1) in (
+      rest.0,
+      ap (λ o. and_then o (λ n. view n is)) first.1.applied_is ∙ rest.1,
+      record {
+        objects = rest.2.objects ∙ ap (λ os. objects_after os is) first.1.objects;
+        cells = λ x cell known live. rest.2.cells x (cell_after i x cell) (λ e. first.1.cells x cell known e) live;
+      },
+    )
 
 pub view_wrong : (is : List Item) (m : MemoryMeaning) → all_right m.objects is ≡ false → view m is ≡ None
 view_wrong [] m r = absurd (true≢false r)

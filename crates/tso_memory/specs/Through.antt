@@ -1,6 +1,5 @@
 -- What each item does to the objects, to the object with a range, and to one cell: a view without its whole memory.
-use Rattle.std.specs.Prelude.{◌≡◌, ℕ, ◌-◌, Bool, true, not, List, [], ◌∷◌, Option, Some, None, ◌&&◌, if◌then◌else◌}
-use Rattle.tso_words.specs.declared.value.Val.{Val}
+use Rattle.std.specs.Prelude.{ℕ, ◌-◌, Bool, true, List, [], ◌∷◌, Option, Some, None, ◌&&◌, if◌then◌else◌}
 use Rattle.tso_words.specs.declared.value.Val.TheVariants.{Undef, Word}
 use Rattle.tso_words.specs.declared.value.Cell.{Cell}
 use Rattle.tso_words.specs.declared.value.Cell.TheVariants.{Blank}

@@ -7,7 +7,9 @@ ghost use Rattle.tso_memory.specs.Kept.{memory_of, kept_at, empty};
 ghost use Rattle.tso_words.specs.declared.value.Cell.TheVariants.{Blank, Byte};
 
 use crate::buffer::Item;
-use crate::object::{Kind, Object, end_at, end_lifted, end_met, find_object, insert_object, is_held, is_live_at};
+use crate::object::{
+    Kind, Object, end_at, end_lifted, end_met, find_object, insert_object, is_held, is_live_at,
+};
 use crate::pages::Pages;
 use std::alloc::Global;
 use std::marker::Model;
@@ -119,7 +121,12 @@ impl Memory {
             Chunk::I16s | Chunk::I16u => val_of(chunk, &[self.cell(x), self.cell(x + 1)]),
             Chunk::I32 => val_of(
                 chunk,
-                &[self.cell(x), self.cell(x + 1), self.cell(x + 2), self.cell(x + 3)],
+                &[
+                    self.cell(x),
+                    self.cell(x + 1),
+                    self.cell(x + 2),
+                    self.cell(x + 3),
+                ],
             ),
         })
     }

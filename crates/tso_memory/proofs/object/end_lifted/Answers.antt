@@ -1,6 +1,6 @@
-use Rattle.std.proofs.Common.{not, ◌==◌, rules}
+use Rattle.std.proofs.Common.{not, rules}
 use Rattle.std.proofs.lemmas.Fn.{filter_same}
-use Rattle.tso_memory.specs.Memory.{is_met, is_at}
+use Rattle.tso_memory.specs.Memory.{is_at}
 use Rattle.tso_memory.proofs.object.end_lifted.Goals as goal
 
 pub returns : goal.returns

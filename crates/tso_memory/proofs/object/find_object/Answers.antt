@@ -1,4 +1,4 @@
-use Rattle.std.proofs.Common.{nat_le, rules, arith, sym, ◌∙◌, true, false, ap}
+use Rattle.std.proofs.Common.{nat_le, rules, arith, sym, ◌∙◌, true, false}
 use Rattle.std.proofs.lemmas.List.Sorted.{IsPartitionPoint-from_clause}
 use Rattle.tso_memory.specs.declared.object.Kind.TheVariants.{Static}
 use Rattle.tso_memory.specs.declared.object.Object.{Object}

@@ -1,6 +1,5 @@
-use Rattle.std.proofs.Common.{nat_lt, rules, arith, ◌∙◌, ap, sym, subst, ◌≤◌, length}
+use Rattle.std.proofs.Common.{nat_lt, rules, ◌∙◌}
 use Rattle.std.proofs.lemmas.List.Sorted.{IsPartitionPoint-from_clause}
-use Rattle.std.specs.List.Sorted.{IsPartitionPoint}
 use Rattle.tso_memory.proofs.ObjectLists.{parted_below, inserted-searched}
 use Rattle.tso_memory.proofs.object.insert_object.Goals as goal
 

@@ -1,6 +1,5 @@
 use Rattle.std.proofs.Common.{ap, ◌∙◌, sym, is_some}
-use Rattle.tso_memory.specs.Memory.{holds}
-use Rattle.tso_memory.proofs.ObjectLists.{is_some-find, is_live-find}
+use Rattle.tso_memory.proofs.ObjectLists.{is_live-find}
 use Rattle.tso_memory.proofs.object.is_live_at.Goals as goal
 
 pub returns-in-Some : goal.returns-in-Some

@@ -1,6 +1,4 @@
-use Rattle.std.proofs.Common.{ap, ◌∙◌, sym, is_some, arith, ◌≤◌, length, List}
-use Rattle.std.specs.List.{find}
-use Rattle.tso_memory.specs.Memory.{holds}
+use Rattle.std.proofs.Common.{ap, ◌∙◌, sym, is_some, arith, ◌≤◌, length}
 use Rattle.tso_memory.specs.Through.{holder_through}
 use Rattle.tso_memory.proofs.Views.{right_behind, holder_end}
 use Rattle.tso_memory.proofs.view.is_right_behind.Goals as goal

@@ -1,8 +1,8 @@
-use Rattle.std.proofs.Common.{sym, ap, ◌∙◌, ◌≡◌, true, false, Bool}
+use Rattle.std.proofs.Common.{sym, ap, ◌∙◌}
 use Rattle.tso_words.specs.Words.{chunk_size}
 use Rattle.tso_memory.specs.Memory.{is_right}
-use Rattle.tso_memory.specs.Kept.{memory_of, kept_at}
-use Rattle.tso_memory.specs.Through.{all_right, objects_after, cell_through}
+use Rattle.tso_memory.specs.Kept.{memory_of}
+use Rattle.tso_memory.specs.Through.{all_right, objects_after}
 use Rattle.tso_memory.proofs.ObjectLists.{size_one, size_two}
 use Rattle.tso_memory.proofs.Views.{view_refused, load_refused, view_one, view_two, view_four}
 use Rattle.tso_memory.proofs.view.view_load.Goals as goal

@@ -1,4 +1,3 @@
-use Rattle.std.proofs.Common.{refl}
 use Rattle.tso_memory.proofs.KeptMemory.{kept, IsKept-zeroed, memory_of-zeroed}
 use Rattle.tso_memory.proofs.memory.Memory.add_zeroed.Goals as goal
 

@@ -1,4 +1,3 @@
-use Rattle.std.proofs.Common.{refl, ◌∙◌, sym, ap}
 use Rattle.tso_memory.proofs.memory.Memory.apply.Goals as goal
 
 pub returns-in-Put-clause-ok : goal.returns-in-Put-clause-ok

@@ -1,4 +1,4 @@
-use Rattle.std.proofs.Common.{ap, ◌∙◌, sym, refl}
+use Rattle.std.proofs.Common.{ap, ◌∙◌, sym}
 use Rattle.tso_memory.specs.Kept.{memory_of, kept_at}
 use Rattle.tso_words.specs.Words.{chunk_size}
 use Rattle.tso_memory.proofs.ObjectLists.{kept_known, loaded_two, loaded_four, size_two}

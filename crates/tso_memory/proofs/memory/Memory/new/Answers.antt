@@ -1,6 +1,4 @@
-use Rattle.std.proofs.Common.{sym, subst, [], List}
-use Rattle.tso_memory.specs.declared.object.Object.{Object}
-use Rattle.tso_memory.specs.Kept.{IsKept, Within, WithinNone}
+use Rattle.tso_memory.specs.Kept.{WithinNone}
 use Rattle.tso_memory.proofs.memory.Memory.new.Goals as goal
 
 pub invariant_of-result : goal.invariant_of-result

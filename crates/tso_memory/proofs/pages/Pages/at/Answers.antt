@@ -1,4 +1,4 @@
-use Rattle.std.proofs.Common.{arith, sym, subst, ℕ, ◌<◌, ◌+◌, ◌*◌, ◌%◌, ◌/◌}
+use Rattle.std.proofs.Common.{arith, ◌%◌, ◌/◌}
 use Rattle.tso_memory.proofs.PageLookups.{cell_within, entry_read}
 use Rattle.tso_memory.proofs.pages.Pages.at.Goals as goal
 

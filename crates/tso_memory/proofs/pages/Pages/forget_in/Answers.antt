@@ -1,4 +1,4 @@
-use Rattle.std.proofs.Common.{arith, ◌∙◌, ◌≡◌, ◌≤◌, ◌<◌, ◌+◌, ◌*◌, length, sym, get_or, None}
+use Rattle.std.proofs.Common.{arith, ◌∙◌, ◌≡◌, length}
 use Rattle.std.proofs.lemmas.List.{with_items_is}
 use Rattle.tso_memory.proofs.PageLookups.{cell_within, cell_in-forgotten, entry_read}
 use Rattle.tso_memory.proofs.pages.Pages.forget_in.Goals as goal

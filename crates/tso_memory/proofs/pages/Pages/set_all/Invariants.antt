@@ -7,5 +7,5 @@ use Rattle.tso_memory.proofs.pages.Pages.set_all.Given as goal
 abbrev pub invariant-loop-k : goal.invariant-loop-k
 invariant-loop-k l = record {
   written : (y : ℕ) → written_at l.self y ≡ (if is_in l.x l.k y then Some (get_or l.cells (y - l.x) Blank) else written_at l.initial.self y);
-  table : l.self.table ≡ l.initial.self.table
+  table : l.self.table ≡ l.initial.self.table;
 }
