@@ -1,5 +1,5 @@
 -- What the operators of the intermediate languages answer (after CompCert's operations on 32-bit integers; these are modulo 2 ^ 32 over numbers, where the code uses machine operations). None is a wrong operation.
-use Rattle.std.specs.Prelude.{ℕ, zero, suc, ◌+◌, ◌-◌, ◌*◌, ◌/◌, ◌%◌, ◌^◌, Bool, not, ◌&&◌, ◌==◌, nat_lt, nat_le, if◌then◌else◌, List, [], ◌∷◌, Option, Some, None, ℤ, pos, negsuc, ◌-ℤ◌, int_div, int_rem, int_lt, int_le, bit_and, bit_or, bit_xor}
+use Rattle.std.specs.Prelude.{ℕ, ◌+◌, ◌-◌, ◌*◌, ◌/◌, ◌%◌, ◌^◌, Bool, true, false, not, ◌&&◌, ◌==◌, nat_lt, nat_le, if◌then◌else◌, List, [], ◌∷◌, Option, Some, None, ℤ, pos, negsuc, ◌-ℤ◌, int_div, int_rem, int_lt, int_le, bit_and, bit_or, bit_xor}
 use Rattle.std.specs.Int.{int_div_euclid}
 use Rattle.tso_words.specs.declared.value.Val.{Val}
 use Rattle.tso_words.specs.declared.value.Val.TheVariants.{Undef, Word}
@@ -7,6 +7,8 @@ use Rattle.tso_words.specs.declared.operator.Cond.{Cond}
 use Rattle.tso_words.specs.declared.operator.Cond.TheVariants.{Eq, Ne, LtS, LeS, GtS, GeS, LtU, LeU, GtU, GeU}
 use Rattle.tso_words.specs.declared.operator.Op.{Op}
 use Rattle.tso_words.specs.declared.operator.Op.TheVariants.{Add, Sub, Mul, And, Or, Xor, DivS, ModS, DivU, ModU, Shl, ShrS, ShrU, Neg, Not, Cast8s, Cast8u, Cast16s, Cast16u, Cmp}
+use Rattle.tso_words.specs.declared.value.Chunk.{Chunk}
+use Rattle.tso_words.specs.declared.value.Chunk.TheVariants.{I8s, I8u, I16s, I16u, I32}
 use Rattle.tso_words.specs.Words.{extend_sign}
 
 -- the signed number of a word: from 2 ^ 31 on it is 2 ^ 32 less
@@ -49,6 +51,11 @@ abbrev pub compare : Cond → Val → Val → Option Bool
 compare c Undef b = None
 compare c (Word a) Undef = None
 compare c (Word a) (Word b) = Some (holds c a b)
+
+-- a comparison as a value: 1 or 0, and Undef where it is not known
+abbrev pub truth : Option Bool → Val
+truth None = Undef
+truth (Some b) = Word (if b then 1 else 0)
 
 -- an operator on words that is never wrong: Undef where an operand is not known
 abbrev pub of_one : (ℕ → ℕ) → Val → Option Val
@@ -112,3 +119,19 @@ operate op [] = None
 operate op (a ∷ []) = operate_one op a
 operate op (a ∷ b ∷ []) = operate_two op a b
 operate op (a ∷ b ∷ c ∷ rest) = None
+
+-- what is left of a value that is written as a chunk and read again: the answer of the chunk's cast, and all of a word
+abbrev pub kept : Chunk → Val → Option Val
+kept I8s v = operate Cast8s (v ∷ [])
+kept I8u v = operate Cast8u (v ∷ [])
+kept I16s v = operate Cast16s (v ∷ [])
+kept I16u v = operate Cast16u (v ∷ [])
+kept I32 v = Some v
+
+-- the operators that keep the low bits
+abbrev pub is_cast : Op → Bool
+is_cast Cast8s = true
+is_cast Cast8u = true
+is_cast Cast16s = true
+is_cast Cast16u = true
+is_cast _ = false

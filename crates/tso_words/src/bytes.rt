@@ -28,7 +28,12 @@ pub fn bytes_of(c: Chunk, v: Val) -> [Cell; 4]
     match c {
         Chunk::I8s | Chunk::I8u => [Cell::Byte(b0), Cell::Blank, Cell::Blank, Cell::Blank],
         Chunk::I16s | Chunk::I16u => [Cell::Byte(b0), Cell::Byte(b1), Cell::Blank, Cell::Blank],
-        Chunk::I32 => [Cell::Byte(b0), Cell::Byte(b1), Cell::Byte(b2), Cell::Byte(b3)],
+        Chunk::I32 => [
+            Cell::Byte(b0),
+            Cell::Byte(b1),
+            Cell::Byte(b2),
+            Cell::Byte(b3),
+        ],
     }
 }
 

@@ -4,6 +4,7 @@
 
 pub mod bytes;
 pub mod evaluation;
+pub mod laws;
 pub mod name;
 pub mod operator;
 pub mod value;
@@ -13,3 +14,6 @@ pub use evaluation::{eval_cond, eval_op};
 pub use name::{Name, NoMemory, Words};
 pub use operator::{Cond, Op};
 pub use value::{Cell, Chunk, Val};
+
+#[cfg(test)]
+mod tests;
