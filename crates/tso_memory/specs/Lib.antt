@@ -1,3 +1,4 @@
 pub mod Buffer
 pub mod Kept
 pub mod Memory
+pub mod Through

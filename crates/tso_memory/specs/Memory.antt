@@ -99,3 +99,7 @@ removed base os = filter (λ o. not (o.base == base)) os
 abbrev pub AreObjects : (low : ℕ) → List Object → Type 0
 AreObjects low [] = Unit {0}
 AreObjects low (o ∷ os) = (low ≤ o.base) × IsSound o.base o.size × AreObjects (o.base + o.size) os
+
+-- no object shares an address with a range
+abbrev pub IsApart : (base size : ℕ) → List Object → Type 0
+IsApart base size os = list_any (is_met base size) os ≡ false
