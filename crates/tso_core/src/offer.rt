@@ -1,7 +1,8 @@
 //! What a thread offers to do next, what it is answered, and what a step of a machine gives.
 
 use crate::Event;
-use tso_words::{Chunk, Name, Val, Words};
+use thiserror::Error;
+use tso_words::{Chunk, Name, NoMemory, Val, Words};
 
 /// An atomic read-modify-write of a word. `Cas` stores the desired value where the old one is the
 /// expected one, `Add` the sum, `Xchg` the desired value.
@@ -95,4 +96,26 @@ pub enum Now {
 pub struct StepOut {
     pub event: Option<Event>,
     pub now: Now,
+}
+
+/// Why a machine made no step. It is as it was.
+#[derive(Clone, Copy, PartialEq, Eq, Debug, Error)]
+pub enum StepRefusal {
+    /// The step is not enabled.
+    #[error("not enabled")]
+    NotEnabled,
+    /// The allocator had no memory.
+    #[error("no memory")]
+    NoMemory,
+}
+
+impl From<NoMemory> for StepRefusal {
+    ghost use Rattle.std.specs.Prelude.{◌≡◌};
+    ghost use Rattle.tso_core.specs.declared.offer.StepRefusal.TheVariants as R;
+
+    ghost from_gives = { λ _ e. e ≡ R.NoMemory };
+
+    fn from(_: NoMemory) -> StepRefusal {
+        StepRefusal::NoMemory
+    }
 }
