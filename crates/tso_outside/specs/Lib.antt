@@ -1,0 +1,5 @@
+pub mod Counting
+pub mod Entries
+pub mod SinkCalls
+pub mod StoreCalls
+pub mod Views
