@@ -1,4 +1,5 @@
 // Instructions, and the assembly that they make up.
+ghost use Rattle.std.specs.Prelude.{◌<◌, ◌≤◌, vec_len};
 
 /// One instruction. Numbers are words of 32 bits.
 #[derive(Clone, Copy, Debug, PartialEq, Eq)]
@@ -15,10 +16,14 @@ pub const CODE_START: u32 = 0x0800_0000;
 /// An assembly text as data.
 #[derive(Drop)]
 pub struct Asm {
-    /// The number of its line `# pace`, which bounds how many steps a source step pays for.
+    /// The number of the line `# pace`: for each step of a thread of the source the text takes at
+    /// most so many.
     pub pace: u128,
     /// The number of the instruction that the label `main` stands before.
     pub main: u32,
     /// The instructions, in order.
     pub code: Vec<Instr>,
+    // The instructions end below the globals, at 0x20000000.
+    ghost main_fits: { main < 402653184 },
+    ghost code_fits: { vec_len code ≤ 402653184 },
 }
