@@ -1,5 +1,5 @@
 -- The files that a list of names with their bytes stands for. This project's own; the code looks through the list.
-use Rattle.std.specs.Prelude.{◌≡◌, ℕ, ◌<◌, List, [], map, length, take, get_or, None, String, Vec, string_bytes, bytes_eq, Bool}
+use Rattle.std.specs.Prelude.{◌≡◌, ℕ, ◌<◌, List, [], ◌∷◌, map, length, take, get_or, None, String, Vec, string_bytes}
 use Rattle.tso_outside.specs.Views.{Files, held}
 
 abbrev pub entry : {Y Z : Type 0} → String Y × Vec ℕ Z → List ℕ × List ℕ
@@ -15,9 +15,7 @@ pub record IsPlaceOf (files : Files) (name : List ℕ) (place : ℕ) : Type 0 wh
   pub before : held (take place files) name ≡ None
   pub here : (get_or files place ([], [])).0 ≡ name
 
--- the names, in order, and when two are the same
-abbrev pub names_of : {Y Z : Type 0} → List (String Y × Vec ℕ Z) → List (List ℕ)
-names_of files = map (λ file. string_bytes file.0) files
-
-abbrev pub name_eq : List ℕ → List ℕ → Bool
-name_eq a b = bytes_eq a b
+-- no name stands twice
+abbrev pub AreDistinct : Files → Type 0
+AreDistinct [] = Unit {0}
+AreDistinct (file ∷ files) = (held files file.0 ≡ None) × AreDistinct files

@@ -11,6 +11,8 @@ mod mem_sink;
 mod mem_store;
 mod outside;
 mod steady;
+#[cfg(test)]
+mod tests;
 
 pub use mem_sink::MemSink;
 pub use mem_store::MemStore;

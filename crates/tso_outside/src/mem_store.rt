@@ -1,7 +1,6 @@
 // A store in memory. It takes few bytes at a time, and fails at the calls that it is told to.
 ghost use Rattle.std.specs.Prelude.{◌≡◌, ◌<◌, map};
-ghost use Rattle.std.specs.List.{IsDistinct};
-ghost use Rattle.tso_outside.specs.Entries.{name_eq, names_of};
+ghost use Rattle.tso_outside.specs.Entries.{AreDistinct, entries};
 
 use crate::files::{append_to, copy_front, is_failing, make_empty, place_of, rest};
 use crate::{Failed, Store};
@@ -29,7 +28,7 @@ impl MemStore {
     /// A store that holds these files, before its first call.
     pub fn made(files: Vec<(String, Vec<u8>)>, grain: u32, failing: Vec<u64>) -> MemStore
         requires some_grain { 0 < grain }
-        requires distinct { IsDistinct name_eq (names_of files.items) }
+        requires distinct { AreDistinct (entries files.items) }
         ensures { Opens files.items grain failing.items result }
     {
         MemStore {
@@ -47,7 +46,6 @@ impl MemStore {
 impl Store for MemStore {
     ghost use Rattle.std.specs.Prelude.{IsErr, IfOk, OnErr, ◌⊎◌, None, length, min};
     ghost use Rattle.tso_outside.specs.Views.{Appends, ReadsAt, WritesNew, held};
-    ghost use Rattle.tso_outside.specs.Entries.{entries};
     ghost use Rattle.tso_outside.specs.StoreCalls.{Counts, IsDue, ReadEnds, WriteEnds, store_view};
 
     ghost view = { store_view };

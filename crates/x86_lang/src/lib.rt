@@ -8,6 +8,8 @@
 
 mod asm;
 mod machine;
+#[cfg(test)]
+mod tests;
 
 pub use asm::{Asm, Instr};
 pub use machine::{StepRefusal, X86Machine, X86Now, X86Out};
