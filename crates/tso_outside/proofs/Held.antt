@@ -112,16 +112,27 @@ none_at_all items name i le none = ap (λ fs. held fs name) (sym (take_all i (en
 at_end : (new bytes source : List ℕ) (from n : ℕ) → source ≡ drop from bytes → (n ≡ 0 → (length new ≡ 0) ⊎ (length source ≡ 0)) → n ≡ 0 → (length new ≡ 0) ⊎ (length bytes ≤ from)
 at_end new bytes source from n is none zero = elim (none zero) [ inl a ↦ inl a | inr b ↦ let e : length bytes - from ≡ 0 = sym (length-drop from bytes) ∙ ap length (sym is) ∙ b in inr (omega arith) ]
 
+pub reads_bytes : (bytes new source : List ℕ) (from n : ℕ) → source ≡ drop from bytes → source ≡ take n new ++ drop n source → (n ≡ 0 → (length new ≡ 0) ⊎ (length source ≡ 0)) → ReadsFrom (Some bytes) from new (Ok n)
+reads_bytes bytes new source from n is front none =
+    let whole : drop from bytes ≡ take n new ++ drop (from + n) bytes = sym is ∙ front ∙ ap (λ s. take n new ++ drop n s) is ∙ ap (λ s. take n new ++ s) (drop-drop n from bytes) in
+    (whole, at_end new bytes source from n is none)
+
 pub reads : (files : Files) (name bytes new source : List ℕ) (from n : ℕ) → held files name ≡ Some bytes → source ≡ drop from bytes → source ≡ take n new ++ drop n source → (n ≡ 0 → (length new ≡ 0) ⊎ (length source ≡ 0)) → ForSome (Some files) (λ fs. ReadsFrom (held fs name) from new (Ok n))
 reads files name bytes new source from n has is front none fs e =
     let same : files ≡ fs = cc in
     let P : Option (List ℕ) → Type 0 = λ o. ReadsFrom o from new (Ok n) in
-    let whole : drop from bytes ≡ take n new ++ drop (from + n) bytes = sym is ∙ front ∙ ap (λ s. take n new ++ drop n s) is ∙ ap (λ s. take n new ++ s) (drop-drop n from bytes) in
-    subst P (sym has ∙ ap (λ gs. held gs name) same) (whole, at_end new bytes source from n is none)
+    subst P (sym has ∙ ap (λ gs. held gs name) same) (reads_bytes bytes new source from n is front none)
 
 -- nothing is read only into no room or at the end
 pub none_taken : (new source : List ℕ) (most n : ℕ) → 0 < most → n ≡ min most (min (length new) (length source)) → n ≡ 0 → (length new ≡ 0) ⊎ (length source ≡ 0)
 none_taken new source most n some count zero = elim (cases_lt 0 (length new)) [
+  | inl room ↦ inr (omega arith)
+  | inr none ↦ inl (omega arith)
+]
+
+-- nothing is read only into no room or at the end, where all that is left is offered
+pub none_offered : (new source : List ℕ) (n : ℕ) → n ≡ min (length source) (min (length new) (length source)) → n ≡ 0 → (length new ≡ 0) ⊎ (length source ≡ 0)
+none_offered new source n count zero = elim (cases_lt 0 (length new)) [
   | inl room ↦ inr (omega arith)
   | inr none ↦ inl (omega arith)
 ]

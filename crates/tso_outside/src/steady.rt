@@ -1,8 +1,9 @@
 // A store and a sink that never fail and tell nothing.
-ghost use Rattle.std.specs.Prelude.{Option, None, ◌≡◌, min, ◌+◌, ◌-◌, ◌^◌, length, Ok};
-ghost use Rattle.tso_outside.specs.Views.{Appends, Puts, ReadsAt, WritesNew};
+ghost use Rattle.std.specs.Prelude.{◌≡◌, length, Ok, Some};
+ghost use Rattle.tso_outside.specs.Steady.{bytes_in, plus, silent_sink, silent_store};
+ghost use Rattle.tso_outside.specs.Views.{Appends, Puts, ReadsAt, ReadsFrom, WritesNew};
 
-use crate::files::{copy_front, rest};
+use crate::files::{copy_front, place_of, rest};
 use crate::{Failed, Sink, Store};
 
 /// Lent files that are read; of what is written only the number of bytes is kept.
@@ -15,30 +16,41 @@ pub struct SteadyStore<'a> {
     pub written: u64,
 }
 
-fn bytes_of<'a>(files: &'a [(String, Vec<u8>)], name: &str) -> &'a [u8] {
-    for file in files {
-        if file.0.as_str() == name {
-            return &file.1;
-        }
+fn bytes_of<'a>(files: &'a [(String, Vec<u8>)], name: &str) -> &'a [u8]
+    ensures { result.now ≡ bytes_in files.now name.now }
+{
+    match place_of(files, name) {
+        Some(place) => &files[place].1,
+        None => &[],
     }
-    &[]
 }
 
 impl<'a> Store for SteadyStore<'a> {
-    ghost use Rattle.tso_outside.specs.Views.{StoreView};
+    ghost view = { λ s. silent_store };
 
-    ghost view = { λ s. record { files = None; read_faults = 0; write_faults = 0; misses = 0 } };
-
-    fn read_at(&mut self, name: &str, from: u64, into: &mut [u8]) -> Result<usize, Failed> {
+    /// Reads as much as `into` has room for.
+    fn read_at(&mut self, name: &str, from: u64, into: &mut [u8]) -> Result<usize, Failed>
+        ensures reads { ReadsAt silent_store silent_store name.now from into.new result }
+        ensures gives { ReadsFrom (Some (bytes_in self.old.files.now name.now)) from into.new result }
+        ensures unwritten { self.new.written ≡ self.old.written }
+    {
         let source = rest(bytes_of(self.files, name), from);
         Ok(copy_front(source, source.len(), into))
     }
 
-    fn write_new(&mut self, _name: &str) -> Result<(), Failed> {
+    fn write_new(&mut self, _name: &str) -> Result<(), Failed>
+        ensures writes { WritesNew silent_store silent_store _name.now result }
+        ensures unwritten { self.new.written ≡ self.old.written }
+    {
         Ok(())
     }
 
-    fn append(&mut self, _name: &str, piece: &[u8]) -> Result<usize, Failed> {
+    /// Takes the whole piece.
+    fn append(&mut self, _name: &str, piece: &[u8]) -> Result<usize, Failed>
+        ensures appends { Appends silent_store silent_store _name.now piece.now result }
+        ensures whole { result ≡ Ok (length piece.now) }
+        ensures written { self.new.written ≡ plus self.old.written (length piece.now) }
+    {
         self.written = self.written.saturating_add(piece.len() as u64);
         Ok(piece.len())
     }
@@ -52,11 +64,14 @@ pub struct SteadySink {
 }
 
 impl Sink for SteadySink {
-    ghost use Rattle.tso_outside.specs.Views.{SinkView};
+    ghost view = { λ s. silent_sink };
 
-    ghost view = { λ s. record { bytes = None; faults = 0 } };
-
-    fn put(&mut self, piece: &[u8]) -> Result<usize, Failed> {
+    /// Takes the whole piece.
+    fn put(&mut self, piece: &[u8]) -> Result<usize, Failed>
+        ensures puts { Puts silent_sink silent_sink piece.now result }
+        ensures whole { result ≡ Ok (length piece.now) }
+        ensures written { self.new.written ≡ plus self.old.written (length piece.now) }
+    {
         self.written = self.written.saturating_add(piece.len() as u64);
         Ok(piece.len())
     }
