@@ -7,6 +7,7 @@ use Rattle.tso_outside.specs.declared.outside.Failed.{Failed}
 abbrev pub Files : Type 0
 Files = List (List ℕ × List ℕ)
 
+-- what the map holds under a name
 abbrev pub held : Files → List ℕ → Option (List ℕ)
 held [] name = None
 held (file ∷ files) name = if bytes_eq file.0 name then Some file.1 else held files name
@@ -56,6 +57,7 @@ abbrev pub ReadsFrom : Option (List ℕ) → ℕ → List ℕ → Result ℕ Fai
 ReadsFrom None from new result = IsErr result
 ReadsFrom (Some bytes) from new result = IfOk result (λ n. (drop from bytes ≡ take n new ++ drop (from + n) bytes) × (n ≡ 0 → (length new ≡ 0) ⊎ (length bytes ≤ from)))
 
+-- a read: it changes no file, and what it puts in front of `new` is what stands in the file
 pub record ReadsAt (before now : StoreView) (name : List ℕ) (from : ℕ) (new : List ℕ) (result : Result ℕ Failed) : Type 0 where
   pub later : Later before now
   pub same_files : now.files ≡ before.files
@@ -69,6 +71,7 @@ abbrev pub IsMade : {E : Type 0} → Option (List ℕ) → Option (List ℕ) →
 IsMade old new (Ok u) = new ≡ Some []
 IsMade old new (Err e) = (new ≡ old) ⊎ (new ≡ Some [])
 
+-- a call that makes a file new changes no other
 pub record WritesNew (before now : StoreView) (name : List ℕ) (result : Result (Unit {0}) Failed) : Type 0 where
   pub later : Later before now
   pub same_read_faults : now.read_faults ≡ before.read_faults
@@ -86,6 +89,7 @@ abbrev pub IsLonger : {E : Type 0} → Option (List ℕ) → Option (List ℕ) �
 IsLonger old new piece (Ok n) = new ≡ Some (or_empty old ++ take n piece)
 IsLonger old new piece (Err e) = new ≡ old
 
+-- a call that appends to a file changes no other, and takes something of a piece that is not empty
 pub record Appends (before now : StoreView) (name : List ℕ) (piece : List ℕ) (result : Result ℕ Failed) : Type 0 where
   pub later : Later before now
   pub same_read_faults : now.read_faults ≡ before.read_faults
@@ -94,6 +98,7 @@ pub record Appends (before now : StoreView) (name : List ℕ) (piece : List ℕ)
   pub told : Turns before.files now.files (λ old new. Spares name old new × IsLonger (held old name) (held new name) piece result)
   pub cause : OnErr result (Rose before.write_faults now.write_faults)
 
+-- a call that puts a piece on a sink takes something of a piece that is not empty
 pub record Puts (before now : SinkView) (piece : List ℕ) (result : Result ℕ Failed) : Type 0 where
   pub later : before.faults ≤ now.faults
   pub takes : IfOk result (λ n. Takes piece n)

@@ -1,6 +1,7 @@
 -- From how a file is read to the outcome that the files ask for.
 use Rattle.std.proofs.Common.{◌≡◌, ◌≢◌, ℕ, List, refl, sym, ap, subst, Option, Some, None, Result, Ok, Err, inl, inr, ◌⊎◌, Vec, Global, arith}
 use Rattle.std.specs.Option.{ForSome}
+use Rattle.std.specs.Prelude.{MatchOption, ◌↔◌}
 use Rattle.tso_outside.specs.Views.{Files, held, StoreView, SinkView, Rose, ReadCause}
 use Rattle.tso_outside.specs.declared.outside.Failed.{Failed}
 use Rattle.tso_top.specs.declared.status.Status.{Status}
@@ -9,7 +10,7 @@ use Rattle.tso_top.specs.declared.whole.ReadRefusal.{ReadRefusal}
 use Rattle.tso_top.specs.declared.whole.ReadRefusal.TheVariants as refusal
 use Rattle.tso_top.specs.Statuses.{line_of}
 use Rattle.tso_top.specs.Commands.{Command, Compile, Outcome, Reading, Missing, Passes, Within, Compiling}
-use Rattle.tso_top.specs.Promise.{IsQuiet, IsFree, ByReadFault, ByWriteFault, ByNoMemory, Exactly, IsAsked, IsMissing, Prints}
+use Rattle.tso_top.specs.Promise.{Promise, Refuses, IsQuiet, IsFree, ByReadFault, ByWriteFault, ByNoMemory, Exactly, IsAsked, IsMissing, Prints}
 use Rattle.tso_top.specs.Whole.{IsWhole, ReadsWhole, PutsWhole}
 use Rattle.tso_top.specs.Answers.{status_of}
 
@@ -115,3 +116,8 @@ one_missing i c u v is cause = elim cause [ inl rose ↦ inl rose | inr missed �
 
 pub refused_cause : (c : Command) (name : List ℕ) (limit : ℕ) (u v : StoreView) (r : ReadRefusal) → ((files : Files) → held files name ≡ None → IsMissing c files) → ReadsWhole u v name limit (Err r) → status_of r ≡ ReadFault → ReadCause (IsMissing c) u v
 refused_cause c name limit u v r is a e = one_missing name c u v is (a.cause (ap Err (refused_fault r e)))
+
+-- Usage comes exactly where the words are no command
+pub usage_exactly : (o : Option Command) (u w : StoreView) (a b : SinkView) (s : Status) → MatchOption o (Refuses u w a b s) (λ c. Promise c u w a b s) → (s ≡ Usage) ↔ (o ≡ None)
+usage_exactly None u w a b s h = (λ e. refl, λ e. h.usage)
+usage_exactly (Some c) u w a b s h = (λ e. absurd (h.not_usage e), λ e. absurd (cc))

@@ -35,6 +35,7 @@ step n s (Run (suc thread) None) = None
 step n s (Run thread (Some choice)) = None
 step n s (Drain thread) = None
 
+-- the program has exited once its thread has ended
 abbrev pub status : State → Status
 status Enter = Running
 status Block = Running
@@ -46,6 +47,7 @@ status Ended = Exited
 abbrev pub nodes : ℕ
 nodes = 3
 
+-- the frame bound of main: it has no locals and no parameters
 abbrev pub frame_bound : ℕ
 frame_bound = 64 + 64 * nodes
 
@@ -54,6 +56,7 @@ abbrev pub live : State → List Names
 live Ended = []
 live _ = codes "main" ∷ []
 
+-- the live calls of each thread
 abbrev pub live_of : State → ℕ → List Names
 live_of s zero = live s
 live_of s (suc thread) = []

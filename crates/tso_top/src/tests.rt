@@ -84,28 +84,31 @@ fn a_file_is_compiled(rt: HostRuntime) -> Result<(), Fail> {
     Ok(())
 }
 
-// With a grain of eight the reads are calls 0 to 4, making OUT new is call 5, and eight appends follow.
+// The number of a call that fails, the status, and how many bytes OUT holds then. With a grain of
+// eight the reads are calls 0 to 4, making OUT new is call 5, and eight appends follow.
+const FAILING_CALLS: [(u64, Status, Option<usize>); 15] = [
+    (0, Status::ReadFault, None),
+    (1, Status::ReadFault, None),
+    (2, Status::ReadFault, None),
+    (3, Status::ReadFault, None),
+    (4, Status::ReadFault, None),
+    (5, Status::WriteFault, None),
+    (6, Status::WriteFault, Some(0)),
+    (7, Status::WriteFault, Some(8)),
+    (8, Status::WriteFault, Some(16)),
+    (9, Status::WriteFault, Some(24)),
+    (10, Status::WriteFault, Some(32)),
+    (11, Status::WriteFault, Some(40)),
+    (12, Status::WriteFault, Some(48)),
+    (13, Status::WriteFault, Some(56)),
+    (14, Status::Done, Some(59)),
+];
+
 #[test]
 fn each_call_fails_in_turn(rt: HostRuntime) -> Result<(), Fail> {
     let alloc = rt.alloc();
     let list = words(alloc, &["compile", "a.c", "a.s"])?;
-    for (failing, status, size) in [
-        (0u64, Status::ReadFault, None),
-        (1, Status::ReadFault, None),
-        (2, Status::ReadFault, None),
-        (3, Status::ReadFault, None),
-        (4, Status::ReadFault, None),
-        (5, Status::WriteFault, None),
-        (6, Status::WriteFault, Some(0usize)),
-        (7, Status::WriteFault, Some(8)),
-        (8, Status::WriteFault, Some(16)),
-        (9, Status::WriteFault, Some(24)),
-        (10, Status::WriteFault, Some(32)),
-        (11, Status::WriteFault, Some(40)),
-        (12, Status::WriteFault, Some(48)),
-        (13, Status::WriteFault, Some(56)),
-        (14, Status::Done, Some(59)),
-    ] {
+    for (failing, status, size) in FAILING_CALLS {
         let mut store = store_with(alloc, "a.c", SEVEN.as_bytes(), 8, vec![in alloc; failing]?)?;
         let mut out = MemSink::made(alloc, 8, Vec::new(alloc));
         assert_eq!(rt;
@@ -120,18 +123,18 @@ fn each_call_fails_in_turn(rt: HostRuntime) -> Result<(), Fail> {
             "at {failing}"
         );
         assert_eq!(rt; store.calls, if failing < 14 { failing + 1 } else { 14 });
-        let lines: &[u8] = match status {
-            Status::ReadFault => b"read fault\n",
-            Status::WriteFault => b"write fault\n",
-            _ => b"",
+        let lines = match status {
+            Status::ReadFault => "read fault\n",
+            Status::WriteFault => "write fault\n",
+            _ => "",
         };
-        assert!(rt; out.bytes.as_slice() == lines, "at {failing}");
+        assert!(rt; out.bytes.as_slice() == lines.as_bytes(), "at {failing}");
     }
     Ok(())
 }
 
 #[test]
-fn the_form_of_a_file(rt: HostRuntime) -> Result<(), Fail> {
+fn files_of_the_form(rt: HostRuntime) -> Result<(), Fail> {
     let alloc = rt.alloc();
     for (text, number) in [
         ("int main(void){return 0;}", "0"),
@@ -145,6 +148,12 @@ fn the_form_of_a_file(rt: HostRuntime) -> Result<(), Fail> {
         )?;
         assert!(rt; written.as_slice() == lines.as_bytes(), "{text}");
     }
+    Ok(())
+}
+
+#[test]
+fn files_of_another_form(rt: HostRuntime) -> Result<(), Fail> {
+    let alloc = rt.alloc();
     for text in [
         "",
         "int main(void) { return 7u; }",

@@ -10,6 +10,7 @@ pub record Assembly : Type 0 where
   pub main : ℕ
   pub code : List Instr
 
+-- what a value of the code stands for
 abbrev pub assembly_of : Asm → Assembly
 assembly_of a = record { pace = a.pace; main = a.main; code = a.code.items }
 
