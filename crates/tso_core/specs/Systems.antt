@@ -1,5 +1,5 @@
 -- What a machine is to the laws of refinement, and its runs. A machine has run and drain steps alone, as that of x86-TSO (Owens, Sarkar and Sewell 2009); here a step is a function, and a list of steps that is not enabled is no run.
-use Rattle.std.specs.Prelude.{◌≡◌, ◌≢◌, ℕ, zero, suc, ◌+◌, Bool, true, false, List, [], ◌∷◌, ◌++◌, Option, Some, None, IsSome, if◌then◌else◌, ◌==◌}
+use Rattle.std.specs.Prelude.{ℕ, ◌+◌, Bool, false, List, [], ◌∷◌, ◌++◌, Option, Some, None, IsSome, if◌then◌else◌, ◌==◌}
 use Rattle.tso_core.specs.declared.Step.{Step}
 use Rattle.tso_core.specs.declared.Step.TheVariants.{Run, Drain}
 use Rattle.tso_core.specs.declared.Event.{Event}

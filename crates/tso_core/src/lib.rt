@@ -1,5 +1,15 @@
-//! Steps and events of machines, and what it is that one machine shows no more than another.
+//! Steps and events of machines, what it is that one machine shows no more than another, and the
+//! laws by which this is proved of whole machines: by ties, by simulations of threads, and by
+//! composition.
 #![tactic(auto)]
+
+pub mod language;
+pub mod laws;
+pub mod offer;
+pub mod placement;
+pub mod traced;
+
+use tso_words::{Name, Words};
 
 /// One atomic step of a machine.
 #[derive(Clone, Copy, PartialEq, Eq, Debug)]
@@ -12,8 +22,21 @@ pub enum Step {
 }
 
 /// What a step shows to the outside.
-#[derive(Clone, Copy, PartialEq, Eq, Debug)]
+#[derive(PartialEq, Eq, Debug, Drop)]
 pub enum Event {
+    /// A thread calls the external function `name` with these words.
+    Call {
+        thread: u32,
+        name: Name,
+        words: Words,
+    },
+    /// An external call gives the thread this word.
+    Return {
+        thread: u32,
+        word: u32,
+    },
     /// The program ended with this word.
-    Exit { word: u32 },
+    Exit {
+        word: u32,
+    },
 }

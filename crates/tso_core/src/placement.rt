@@ -1,0 +1,102 @@
+//! The names of a program: its defined functions and globals, where they are placed, and the room
+//! of a function.
+
+ghost use Rattle.std.specs.Prelude.{◌≡◌, ◌≤◌, vec_len};
+ghost use Rattle.tso_core.specs.Placing.{address_of, NamesDiffer};
+
+use std::alloc::AllocError;
+use std::marker::Model;
+use tso_words::Name;
+
+/// A global of a program. `start` has its first bytes; the others begin as zeros.
+#[derive(Drop)]
+pub struct Global {
+    pub name: Name,
+    pub size: u32,
+    pub align: u32,
+    pub start: Vec<u8>,
+    ghost some_size: { 1 ≤ size },
+    ghost some_align: { 1 ≤ align },
+    ghost start_fits: { vec_len start ≤ size },
+}
+
+impl Clone for Global {
+    ghost use Rattle.tso_core.specs.Stated.{object_of};
+
+    ghost is_clone = { λ g copy. object_of copy ≡ object_of g };
+
+    fn clone(&self) -> Result<Global, AllocError> {
+        let name = self.name.clone()?;
+        let start = self.start.clone()?;
+        Ok(Global {
+            name,
+            size: self.size,
+            align: self.align,
+            start,
+        })
+    }
+}
+
+/// The defined functions and the globals of a program, in order.
+#[derive(Drop)]
+pub struct Globals {
+    pub functions: Vec<Name>,
+    pub objects: Vec<Global>,
+}
+
+impl Clone for Globals {
+    ghost use Rattle.tso_core.specs.Stated.{globals_of};
+
+    ghost is_clone = { λ g copy. globals_of copy ≡ globals_of g };
+
+    fn clone(&self) -> Result<Globals, AllocError> {
+        let functions = self.functions.clone()?;
+        let objects = self.objects.clone()?;
+        Ok(Globals { functions, objects })
+    }
+}
+
+/// The room of one function of a program, in any of the languages. `nodes` is the number of nodes
+/// of its text in C, at most 8,000; `stated` is the size of its frame that the program states to
+/// the outside, in bytes, and never changes from language to language; `needed` is the number of
+/// bytes that its locals, temporaries, registers and slots take so far.
+#[derive(Clone, Copy, PartialEq, Eq, Debug)]
+pub struct Room {
+    pub nodes: u32,
+    pub stated: u32,
+    pub needed: u32,
+}
+
+/// The addresses of names, no name twice.
+#[derive(Drop)]
+pub struct Placement {
+    list: Vec<(Name, u32)>,
+}
+
+impl Model for Placement {
+    ghost use Rattle.tso_core.specs.Systems.{Places};
+    ghost use Rattle.tso_core.specs.Placing.{NamesDiffer};
+
+    ghost Value = { Places };
+
+    ghost view = { λ p. p.list.items };
+
+    ghost invariant = { λ p. NamesDiffer p.list.items };
+}
+
+impl Placement {
+    /// These names at these addresses.
+    pub fn made(list: Vec<(Name, u32)>) -> Placement
+        requires { NamesDiffer list.items }
+        ensures { result ≡ list.items }
+    {
+        Placement { list }
+    }
+
+    /// The address of a name; `None` where it has none.
+    pub fn find(&self, name: &Name) -> Option<u32>
+        ensures { result ≡ address_of self.now name.now }
+    {
+        self.list.iter().find(|e| e.0 == *name).map(|e| e.1)
+    }
+}

@@ -1,0 +1,6 @@
+use Rattle.std.proofs.Common.{not, ◌==◌, rules}
+use Rattle.std.proofs.lemmas.Fn.{filter_same}
+use Rattle.tso_memory.proofs.object.end_at.Goals as goal
+
+pub returns : goal.returns
+returns c = filter_same _ (λ o. not ((o.base == c.args.base))) _ (λ x b f' k. search rules) _ _ c.retain.ensures.filtered

@@ -1,0 +1,4 @@
+pub mod Buffer
+pub mod Kept
+pub mod Memory
+pub mod Through

@@ -1,0 +1,123 @@
+-- From how a file is read to the outcome that the files ask for.
+use Rattle.std.proofs.Common.{◌≡◌, ◌≢◌, ℕ, List, refl, sym, ap, subst, Option, Some, None, Result, Ok, Err, inl, inr, ◌⊎◌, Vec, Global, arith}
+use Rattle.std.specs.Option.{ForSome}
+use Rattle.std.specs.Prelude.{MatchOption, ◌↔◌}
+use Rattle.tso_outside.specs.Views.{Files, held, StoreView, SinkView, Rose, ReadCause}
+use Rattle.tso_outside.specs.declared.outside.Failed.{Failed}
+use Rattle.tso_top.specs.declared.status.Status.{Status}
+use Rattle.tso_top.specs.declared.status.Status.TheVariants.{Done, Usage, ReadFault, WriteFault, TooLong, NoMemory}
+use Rattle.tso_top.specs.declared.whole.ReadRefusal.{ReadRefusal}
+use Rattle.tso_top.specs.declared.whole.ReadRefusal.TheVariants as refusal
+use Rattle.tso_top.specs.Statuses.{line_of}
+use Rattle.tso_top.specs.Commands.{Command, Compile, Outcome, Reading, Missing, Passes, Within, Compiling}
+use Rattle.tso_top.specs.Promise.{Promise, Refuses, IsQuiet, IsFree, ByReadFault, ByWriteFault, ByNoMemory, Exactly, IsAsked, IsMissing, Prints}
+use Rattle.tso_top.specs.Whole.{IsWhole, ReadsWhole, PutsWhole}
+use Rattle.tso_top.specs.Answers.{status_of}
+
+-- what holds before a file is read leads on to what its bytes lead to
+module _ (limit : ℕ) (next : List ℕ → Status → List ℕ → Type 0) where
+  must_too_long : (o : Option (List ℕ)) → IsWhole o limit (Err refusal.TooLong) → (s : Status) (lines : List ℕ) → Reading limit next o s lines → TooLong ≡ s
+  must_too_long o long s lines Missing = absurd long
+  must_too_long o long s lines (Passes bytes passes) = refl
+  must_too_long o long s lines (Within bytes status printed within rest) = absurd (omega arith)
+
+  only_too_long : (o : Option (List ℕ)) → IsWhole o limit (Err refusal.TooLong) → Reading limit next o TooLong (line_of TooLong)
+  only_too_long None long = absurd long
+  only_too_long (Some bytes) long = Passes bytes long
+
+  pub must_within : (o : Option (List ℕ)) (read : Vec ℕ Global) (t : Status) → IsWhole o limit (Ok read) → ((s : Status) (lines : List ℕ) → next read.items s lines → t ≡ s) → (s : Status) (lines : List ℕ) → Reading limit next o s lines → t ≡ s
+  must_within o read t whole one s lines Missing = absurd whole
+  must_within o read t whole one s lines (Passes bytes passes) = absurd (let h = whole.1 in omega arith)
+  must_within o read t whole one s lines (Within bytes status printed within rest) = one s lines (subst (λ b. next b s lines) (sym whole.0) rest)
+
+  pub only_within : (o : Option (List ℕ)) (read : Vec ℕ Global) (s : Status) (lines : List ℕ) → IsWhole o limit (Ok read) → next read.items s lines → Reading limit next o s lines
+  only_within None read s lines whole rest = absurd whole
+  only_within (Some bytes) read s lines whole rest = Within bytes s lines whole.1 (subst (λ b. next b s lines) whole.0 rest)
+
+  -- a refused read
+  pub must_refused : (o : Option (List ℕ)) (r : ReadRefusal) → IsWhole o limit (Err r) → (s : Status) (lines : List ℕ) → Reading limit next o s lines → IsFree (status_of r) ⊎ (status_of r ≡ s)
+  must_refused o refusal.ReadFault whole s lines reading = inl ByReadFault
+  must_refused o refusal.NoMemory whole s lines reading = inl ByNoMemory
+  must_refused o refusal.TooLong whole s lines reading = inr (must_too_long o whole s lines reading)
+
+  pub only_refused : (o : Option (List ℕ)) (r : ReadRefusal) → IsWhole o limit (Err r) → IsFree (status_of r) ⊎ Reading limit next o (status_of r) (line_of (status_of r))
+  only_refused o refusal.ReadFault whole = inl ByReadFault
+  only_refused o refusal.NoMemory whole = inl ByNoMemory
+  only_refused o refusal.TooLong whole = inr (only_too_long o whole)
+
+  -- a file that leads to Done is there
+  there : (o : Option (List ℕ)) (s : Status) (lines : List ℕ) → Reading limit next o s lines → s ≡ Done → o ≡ None → ⊥
+  there o s lines Missing e none = cc
+  there o s lines (Passes bytes passes) e none = cc
+  there o s lines (Within bytes status printed within rest) e none = cc
+
+pub free : (c : Command) (files : Files) (s : Status) → IsFree s → Exactly c files s
+free c files s f = record { must = λ t lines outcome. inl f; only = inl f }
+
+-- what is free is one of three
+free_is : (s : Status) → IsFree s → (s ≡ ReadFault) ⊎ ((s ≡ WriteFault) ⊎ (s ≡ NoMemory))
+free_is s ByReadFault = inl refl
+free_is s ByWriteFault = inr (inl refl)
+free_is s ByNoMemory = inr (inr refl)
+
+not_free : (s : Status) → s ≢ ReadFault → s ≢ WriteFault → s ≢ NoMemory → {A : Type 0} → IsFree s ⊎ A → A
+not_free s a b c o = elim o [ inr x ↦ x | inl f ↦ absurd (elim (free_is s f) [ inl e ↦ a e | inr more ↦ elim more [ inl e ↦ b e | inr e ↦ c e ] ]) ]
+
+pub done_not_free : {A : Type 0} → IsFree Done ⊎ A → A
+done_not_free o = not_free Done (λ e. cc) (λ e. cc) (λ e. cc) o
+
+-- a count that is quiet did not rise
+pub not_rose : (a b : ℕ) → IsQuiet a b → Rose a b → ⊥
+not_rose a b quiet rose = let h = quiet.same in let k = quiet.not_last in omega arith
+
+-- lines that are put on a sink whole are printed
+pub prints : (u v : SinkView) (lines : List ℕ) (r : Result (Unit {0}) Failed) → PutsWhole u v lines r → Prints lines u v
+prints u v lines (Ok done) a = record { later = a.later; prefix = a.prefix; whole = λ quiet. a.whole; nothing = a.nothing }
+prints u v lines (Err failed) a = record { later = a.later; prefix = a.prefix; whole = λ quiet. absurd (not_rose u.faults v.faults quiet a.cause); nothing = a.nothing }
+
+-- where the files ask for Done, none that the command reads is missing
+not_missing : (c : Command) (files : Files) (lines : List ℕ) → Outcome c files Done lines → IsMissing c files → ⊥
+not_missing (Compile i o) files lines outcome missing = elim missing [ inl none ↦ there 4194304 Compiling (held files i) Done lines outcome refl none | inr more ↦ more ]
+
+complete_free : (c : Command) (u w : StoreView) (files : Files) (s : Status) → IsFree s → u.files ≡ Some files → (IsMissing c files → ⊥) → (s ≡ ReadFault → ReadCause (IsMissing c) u w) → IsQuiet u.read_faults w.read_faults → (s ≡ WriteFault → ⊥) → (s ≡ Done) ⊎ (s ≡ NoMemory)
+complete_free c u w files s ByReadFault e none cause quiet no_write = absurd (elim (cause refl) [ inl rose ↦ not_rose u.read_faults w.read_faults quiet rose | inr missed ↦ none (missed.1 files e) ])
+complete_free c u w files s ByWriteFault e none cause quiet no_write = absurd (no_write refl)
+complete_free c u w files s ByNoMemory e none cause quiet no_write = inr refl
+
+pub completed : (c : Command) (u w : StoreView) (s : Status) → ForSome u.files (λ files. Exactly c files s) → (s ≡ ReadFault → ReadCause (IsMissing c) u w) → (files : Files) → u.files ≡ Some files → IsAsked c files Done → IsQuiet u.read_faults w.read_faults → (s ≡ WriteFault → ⊥) → (s ≡ Done) ⊎ (s ≡ NoMemory)
+completed c u w s exact cause files e asked quiet no_write = elim ((exact files e).must Done asked.0 asked.1) [
+  | inl f ↦ complete_free c u w files s f e (not_missing c files asked.0 asked.1) cause quiet no_write
+  | inr same ↦ inl same
+]
+
+-- the status of a refused read
+pub refused_not_usage : (r : ReadRefusal) → status_of r ≡ Usage → ⊥
+refused_not_usage refusal.ReadFault e = cc
+refused_not_usage refusal.TooLong e = cc
+refused_not_usage refusal.NoMemory e = cc
+
+pub refused_not_write : (r : ReadRefusal) → status_of r ≡ WriteFault → ⊥
+refused_not_write refusal.ReadFault e = cc
+refused_not_write refusal.TooLong e = cc
+refused_not_write refusal.NoMemory e = cc
+
+pub refused_not_done : (r : ReadRefusal) → status_of r ≡ Done → ⊥
+refused_not_done refusal.ReadFault e = cc
+refused_not_done refusal.TooLong e = cc
+refused_not_done refusal.NoMemory e = cc
+
+refused_fault : (r : ReadRefusal) → status_of r ≡ ReadFault → r ≡ refusal.ReadFault
+refused_fault refusal.ReadFault e = refl
+refused_fault refusal.TooLong e = absurd (cc)
+refused_fault refusal.NoMemory e = absurd (cc)
+
+one_missing : (i : List ℕ) (c : Command) (u v : StoreView) → ((files : Files) → held files i ≡ None → IsMissing c files) → ReadCause (λ files. held files i ≡ None) u v → ReadCause (IsMissing c) u v
+one_missing i c u v is cause = elim cause [ inl rose ↦ inl rose | inr missed ↦ inr (missed.0, λ files e. is files (missed.1 files e)) ]
+
+pub refused_cause : (c : Command) (name : List ℕ) (limit : ℕ) (u v : StoreView) (r : ReadRefusal) → ((files : Files) → held files name ≡ None → IsMissing c files) → ReadsWhole u v name limit (Err r) → status_of r ≡ ReadFault → ReadCause (IsMissing c) u v
+refused_cause c name limit u v r is a e = one_missing name c u v is (a.cause (ap Err (refused_fault r e)))
+
+-- Usage comes exactly where the words are no command
+pub usage_exactly : (o : Option Command) (u w : StoreView) (a b : SinkView) (s : Status) → MatchOption o (Refuses u w a b s) (λ c. Promise c u w a b s) → (s ≡ Usage) ↔ (o ≡ None)
+usage_exactly None u w a b s h = (λ e. refl, λ e. h.usage)
+usage_exactly (Some c) u w a b s h = (λ e. absurd (h.not_usage e), λ e. absurd (cc))

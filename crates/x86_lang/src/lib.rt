@@ -1,0 +1,15 @@
+//! 32-bit assembly and the x86-TSO machine that runs it, as far as a program of one thread needs
+//! that moves a number into EAX and returns.
+//!
+//! The machine is that of Owens, Sarkar and Sewell (x86-TSO, 2009) with this project's own address
+//! map: instruction i stands at `0x08000000 + i`. `X86Machine` steps it; `x86_system` of the
+//! specification is the machine as the laws of refinement see it.
+#![tactic(auto)]
+
+mod asm;
+mod machine;
+#[cfg(test)]
+mod tests;
+
+pub use asm::{Asm, Instr};
+pub use machine::{StepRefusal, X86Machine, X86Now, X86Out};
