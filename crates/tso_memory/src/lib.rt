@@ -20,3 +20,6 @@ pub use memory::{ApplyRefusal, Memory, WrongAccess};
 pub use object::{Kind, Object};
 pub use placing::place_ok;
 pub use view::view_load;
+
+#[cfg(test)]
+mod tests;
