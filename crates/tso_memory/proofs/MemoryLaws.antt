@@ -54,6 +54,7 @@ load-put_same m n c d (Word a) v s e =
   where
     same_bytes : cells_from (cells_put m.cells c (Word a) v) a (chunk_size d) ≡ bytes_of c v
     same_bytes = let z : a ≡ a + 0 = omega arith in ap (λ k. cells_from (cells_put m.cells c (Word a) v) a k) s ∙ (ap (λ x. cells_from (cells_put m.cells c (Word a) v) x (chunk_size c)) z ∙ cells_from-put_from m.cells c a v 0 (chunk_size c) (omega arith))
+
     by_test : (b : Bool) → is_right m.objects c (Word a) ≡ b → (if b then Some (record m { cells = cells_put m.cells c (Word a) v }) else None) ≡ Some n → load n d (Word a) ≡ Some (value_of d (bytes_of c v))
     by_test true r e =
         let after : MemoryMeaning = record m { cells = cells_put m.cells c (Word a) v } in
@@ -77,6 +78,7 @@ load-put_elsewhere m n c d a x v e apart = by_test (is_right m.objects c (Word a
         beside : (y : ℕ) → x ≤ y → y < x + chunk_size d → (x + chunk_size d ≤ a) ⊎ (a + chunk_size c ≤ x) → (y < a) ⊎ (a + chunk_size c ≤ y)
         beside y l h (inl p) = inl (omega arith)
         beside y l h (inr p) = inr (omega arith)
+
     by_test : (b : Bool) → (if b then Some (record m { cells = cells_put m.cells c (Word a) v }) else None) ≡ Some n → load n d (Word x) ≡ load m d (Word x)
     by_test true e =
         let after : MemoryMeaning = record m { cells = cells_put m.cells c (Word a) v } in
@@ -108,6 +110,7 @@ view-push m xs i = view-append m xs (i ∷ []) ∙ after (view m xs)
     alone : (o : Option MemoryMeaning) → and_then o (λ n. Some n) ≡ o
     alone None = refl
     alone (Some n) = refl
+
     after : (o : Option MemoryMeaning) → and_then o (λ n. view n (i ∷ [])) ≡ and_then o (λ n. applied n i)
     after None = refl
     after (Some n) = alone (applied n i)

@@ -55,6 +55,50 @@ fn lift(base: u32, size: u32) -> Item {
     Item::Lift { base, size }
 }
 
+/// Whether each load answers as its row says.
+fn loads_are(m: &Memory, rows: &[(Chunk, u32, Option<Val>)]) -> bool {
+    for &(chunk, addr, wanted) in rows {
+        if m.load(chunk, Val::Word(addr)).ok() != wanted {
+            return false;
+        }
+    }
+    true
+}
+
+/// Whether a load of a word answers as each row says, through a buffer with its items.
+fn views_are(
+    alloc: Global,
+    m: &Memory,
+    addr: u32,
+    rows: &[([Item; 3], Option<Val>)],
+) -> Result<bool, Fail> {
+    for (items, wanted) in rows {
+        let b = buffer_of(alloc, items)?;
+        if view_load(m, &b, Chunk::I32, Val::Word(addr)).ok() != *wanted {
+            return Ok(false);
+        }
+    }
+    Ok(true)
+}
+
+/// Whether `place_ok` answers as each row says.
+fn places_are(m: &Memory, buffers: &[Buffer], rows: &[(usize, u32, u32, u32, bool)]) -> bool {
+    for &(thread, base, size, align, wanted) in rows {
+        if thread >= buffers.len() || place_ok(m, buffers, thread, base, size, align) != wanted {
+            return false;
+        }
+    }
+    true
+}
+
+fn add_zeros(m: &mut Memory, base: u32, size: u32) -> Result<(), Fail> {
+    if m.is_apart(base, size) && 0 < size && size < 1 << 28 && base < 1 << 30 {
+        let kind = Kind::Static;
+        m.add_zeroed(Object { base, size, kind })?;
+    }
+    Ok(())
+}
+
 #[test]
 fn bytes_in_a_word(rt: HostRuntime) -> Result<(), Fail> {
     let items = [
@@ -74,49 +118,33 @@ fn bytes_in_a_word(rt: HostRuntime) -> Result<(), Fail> {
         (Chunk::I32, 0x9000_0008, None),
         (Chunk::I8u, 0x8FFF_FFFF, None),
     ];
-    for (chunk, addr, wanted) in rows {
-        assert_eq!(rt; m.load(chunk, Val::Word(addr)).ok(), wanted);
-    }
+    assert!(rt; loads_are(&m, &rows));
     Ok(())
 }
 
-/// A global of 16 MiB and one of four bytes behind it; no access goes over the border.
+/// A global of 16 MiB and one of four bytes behind it, and a block of the heap.
 #[test]
-fn globals_of_zeros(rt: HostRuntime) -> Result<(), Fail> {
+fn globals_and_a_block(rt: HostRuntime) -> Result<(), Fail> {
     let mut m = Memory::new(rt.alloc());
-    for (base, size) in [(0x2000_0000, 0x0100_0000), (0x2100_0000, 4)] {
-        if m.is_apart(base, size) && 0 < size && size < 1 << 28 && base < 1 << 30 {
-            let kind = Kind::Static;
-            m.add_zeroed(Object { base, size, kind })?;
-        }
-    }
-    assert_eq!(rt; m.objects().len(), 2);
-    let rows = [
-        (0x20AB_CDEC, Some(Val::Word(0))),
-        (0x20FF_FFFC, Some(Val::Word(0))),
-        (0x2100_0000, Some(Val::Word(0))),
-        (0x2100_0004, None),
-    ];
-    for (addr, wanted) in rows {
-        assert_eq!(rt; m.load(Chunk::I32, Val::Word(addr)).ok(), wanted);
-    }
-    Ok(())
-}
-
-#[test]
-fn a_block_is_blank(rt: HostRuntime) -> Result<(), Fail> {
-    let mut m = Memory::new(rt.alloc());
+    add_zeros(&mut m, 0x2000_0000, 0x0100_0000)?;
+    add_zeros(&mut m, 0x2100_0000, 4)?;
     if m.is_apart(0x4000_0000, 16) {
+        let kind = Kind::Heap;
         m.add(Object {
             base: 0x4000_0000,
             size: 16,
-            kind: Kind::Heap,
+            kind,
         })?;
     }
-    assert_eq!(rt;
-        m.load(Chunk::I8u, Val::Word(0x4000_000F)).ok(),
-        Some(Val::Undef)
-    );
+    let rows = [
+        (Chunk::I32, 0x20AB_CDEC, Some(Val::Word(0))),
+        (Chunk::I32, 0x20FF_FFFC, Some(Val::Word(0))),
+        (Chunk::I32, 0x2100_0000, Some(Val::Word(0))),
+        (Chunk::I32, 0x2100_0004, None),
+        (Chunk::I8u, 0x4000_000F, Some(Val::Undef)),
+        (Chunk::I8u, 0x4000_0010, None),
+    ];
+    assert!(rt; loads_are(&m, &rows));
     Ok(())
 }
 
@@ -137,20 +165,7 @@ fn own_items_are_seen(rt: HostRuntime) -> Result<(), Fail> {
         ([lift(x, 8), place(x, 8), byte], Some(Val::Undef)),
         ([lift(x, 8), place(x, 4), three], Some(Val::Word(3))),
     ];
-    for (items, wanted) in rows {
-        let b = buffer_of(rt.alloc(), &items)?;
-        assert_eq!(rt; view_load(&m, &b, Chunk::I32, Val::Word(x)).ok(), wanted);
-    }
-    Ok(())
-}
-
-#[test]
-fn the_oldest_item_comes_first(rt: HostRuntime) -> Result<(), Fail> {
-    let mut b = buffer_of(rt.alloc(), &[place(0x9000_0000, 8), lift(0x9000_0000, 8)])?;
-    assert_eq!(rt; b.items().len(), 2);
-    assert_eq!(rt; b.pop(), Some(place(0x9000_0000, 8)));
-    assert_eq!(rt; b.pop(), Some(lift(0x9000_0000, 8)));
-    assert_eq!(rt; b.pop(), None);
+    assert!(rt; views_are(rt.alloc(), &m, x, &rows)?);
     Ok(())
 }
 
@@ -174,10 +189,6 @@ fn places_and_lifts(rt: HostRuntime) -> Result<(), Fail> {
         (0, 0xEFFF_FFFC, 4, 4, true),
         (0, 0xEFFF_FFFC, 8, 4, false),
     ];
-    for (thread, base, size, align, wanted) in rows {
-        if thread < buffers.len() {
-            assert_eq!(rt; place_ok(&m, &buffers, thread, base, size, align), wanted);
-        }
-    }
+    assert!(rt; places_are(&m, &buffers, &rows));
     Ok(())
 }
