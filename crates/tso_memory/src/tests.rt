@@ -99,6 +99,42 @@ fn add_zeros(m: &mut Memory, base: u32, size: u32) -> Result<(), Fail> {
     Ok(())
 }
 
+static WORD_LOADS: [(Chunk, u32, Option<Val>); 10] = [
+    (Chunk::I8u, 0x9000_0004, Some(Val::Word(0x84))),
+    (Chunk::I8s, 0x9000_0004, Some(Val::Word(0xFFFF_FF84))),
+    (Chunk::I8u, 0x9000_0005, Some(Val::Word(0x03))),
+    (Chunk::I16s, 0x9000_0006, Some(Val::Word(0xFFFF_8182))),
+    (Chunk::I16u, 0x9000_0006, Some(Val::Word(0x8182))),
+    (Chunk::I32, 0x9000_0004, Some(Val::Word(0x8182_0384))),
+    (Chunk::I32, 0x9000_0000, Some(Val::Undef)),
+    (Chunk::I16u, 0x9000_0005, None),
+    (Chunk::I32, 0x9000_0008, None),
+    (Chunk::I8u, 0x8FFF_FFFF, None),
+];
+
+static GLOBAL_LOADS: [(Chunk, u32, Option<Val>); 6] = [
+    (Chunk::I32, 0x20AB_CDEC, Some(Val::Word(0))),
+    (Chunk::I32, 0x20FF_FFFC, Some(Val::Word(0))),
+    (Chunk::I32, 0x2100_0000, Some(Val::Word(0))),
+    (Chunk::I32, 0x2100_0004, None),
+    (Chunk::I8u, 0x4000_000F, Some(Val::Undef)),
+    (Chunk::I8u, 0x4000_0010, None),
+];
+
+static PLACES: [(usize, u32, u32, u32, bool); 11] = [
+    (0, 0x9000_0000, 4, 4, true),
+    (1, 0x9000_0000, 4, 4, false),
+    (0, 0x9000_0010, 4, 4, false),
+    (0, 0x9000_0018, 8, 8, true),
+    (0, 0x9000_0020, 4, 4, false),
+    (1, 0x9000_0020, 4, 4, true),
+    (0, 0x9000_0002, 4, 4, false),
+    (0, 0x9000_0000, 0, 4, false),
+    (0, 0x8FFF_FFFC, 4, 4, false),
+    (0, 0xEFFF_FFFC, 4, 4, true),
+    (0, 0xEFFF_FFFC, 8, 4, false),
+];
+
 #[test]
 fn bytes_in_a_word(rt: HostRuntime) -> Result<(), Fail> {
     let items = [
@@ -106,19 +142,7 @@ fn bytes_in_a_word(rt: HostRuntime) -> Result<(), Fail> {
         put(Chunk::I32, 0x9000_0004, 0x8182_0384),
     ];
     let m = memory_after(rt.alloc(), &items)?;
-    let rows = [
-        (Chunk::I8u, 0x9000_0004, Some(Val::Word(0x84))),
-        (Chunk::I8s, 0x9000_0004, Some(Val::Word(0xFFFF_FF84))),
-        (Chunk::I8u, 0x9000_0005, Some(Val::Word(0x03))),
-        (Chunk::I16s, 0x9000_0006, Some(Val::Word(0xFFFF_8182))),
-        (Chunk::I16u, 0x9000_0006, Some(Val::Word(0x8182))),
-        (Chunk::I32, 0x9000_0004, Some(Val::Word(0x8182_0384))),
-        (Chunk::I32, 0x9000_0000, Some(Val::Undef)),
-        (Chunk::I16u, 0x9000_0005, None),
-        (Chunk::I32, 0x9000_0008, None),
-        (Chunk::I8u, 0x8FFF_FFFF, None),
-    ];
-    assert!(rt; loads_are(&m, &rows));
+    assert!(rt; loads_are(&m, &WORD_LOADS));
     Ok(())
 }
 
@@ -136,15 +160,7 @@ fn globals_and_a_block(rt: HostRuntime) -> Result<(), Fail> {
             kind,
         })?;
     }
-    let rows = [
-        (Chunk::I32, 0x20AB_CDEC, Some(Val::Word(0))),
-        (Chunk::I32, 0x20FF_FFFC, Some(Val::Word(0))),
-        (Chunk::I32, 0x2100_0000, Some(Val::Word(0))),
-        (Chunk::I32, 0x2100_0004, None),
-        (Chunk::I8u, 0x4000_000F, Some(Val::Undef)),
-        (Chunk::I8u, 0x4000_0010, None),
-    ];
-    assert!(rt; loads_are(&m, &rows));
+    assert!(rt; loads_are(&m, &GLOBAL_LOADS));
     Ok(())
 }
 
@@ -176,19 +192,6 @@ fn places_and_lifts(rt: HostRuntime) -> Result<(), Fail> {
     let own = buffer_of(rt.alloc(), &[lift(x, 8), place(0x9000_0010, 8)])?;
     let other = [place(0x9000_0020, 8), lift(0x9000_0020, 8)];
     let buffers = [own, buffer_of(rt.alloc(), &other)?];
-    let rows = [
-        (0, x, 4, 4, true),
-        (1, x, 4, 4, false),
-        (0, 0x9000_0010, 4, 4, false),
-        (0, 0x9000_0018, 8, 8, true),
-        (0, 0x9000_0020, 4, 4, false),
-        (1, 0x9000_0020, 4, 4, true),
-        (0, 0x9000_0002, 4, 4, false),
-        (0, x, 0, 4, false),
-        (0, 0x8FFF_FFFC, 4, 4, false),
-        (0, 0xEFFF_FFFC, 4, 4, true),
-        (0, 0xEFFF_FFFC, 8, 4, false),
-    ];
-    assert!(rt; places_are(&m, &buffers, &rows));
+    assert!(rt; places_are(&m, &buffers, &PLACES));
     Ok(())
 }
