@@ -1,7 +1,7 @@
 -- Laws of memory and of the view, for the crates above.
 use Rattle.std.proofs.Common.{◌≡◌, ◌≢◌, ℕ, zero, suc, ◌+◌, ◌-◌, ◌%◌, ◌<◌, ◌≤◌, Bool, true, false, not, List, [], ◌∷◌, ◌++◌, Option, Some, None, refl, sym, ap, ◌∙◌, inl, inr, ◌⊎◌, arith, if◌then◌else◌, ◌&&◌, ◌||◌, ◌==◌, nat_le, nat_lt}
 use Rattle.std.specs.List.{filter, list_any}
-use Rattle.std.proofs.lemmas.Bool.{cases_lt, lt-leb, le-ltb, cond-true, cond-false, and_left, and_right, and_parts, and_from, leb-true, ltb-true}
+use Rattle.std.proofs.lemmas.Bool.{cases_lt, lt-leb, le-ltb, cond-true, cond-false, cond_both, and_left, and_right, and_parts, and_from, or_cases, or_left, or_right, leb-true, ltb-true, false≢true}
 use Rattle.std.proofs.lemmas.Bool.Decides.{nat_tests}
 use Rattle.tso_words.specs.declared.value.Val.{Val}
 use Rattle.tso_words.specs.declared.value.Val.TheVariants.{Undef, Word}
@@ -138,3 +138,32 @@ load-only m t d x r q =
     let held = (and_parts (x % chunk_size d == 0) (list_any (λ o. holds o x (chunk_size d)) (filter t m.objects)) r).1 in
     let same = cells_from-same (only (filter t m.objects) m).cells m.cells x (chunk_size d) (λ y l h. cond-true (is_live (filter t m.objects) y) (m.cells y) Blank (live_held x (chunk_size d) y (filter t m.objects) held l h)) in
     cond-true (is_right (filter t m.objects) d (Word x)) (Some (value_at (only (filter t m.objects) m).cells d (Word x))) None r ∙ (ap (λ l. Some (value_of d l)) same ∙ sym (cond-true (is_right m.objects d (Word x)) (Some (value_at m.cells d (Word x))) None q))
+
+-- a Lift of another object
+pub load-lift_elsewhere : (m : MemoryMeaning) (base size : ℕ) (d : Chunk) (x : ℕ) → is_right (lifted base size m.objects) d (Word x) ≡ true → is_right m.objects d (Word x) ≡ true → loaded (applied m (Lift base size)) d (Word x) ≡ load m d (Word x)
+load-lift_elsewhere m base size d x r q = load-only m (λ o. not (is_at base size o)) d x r q
+
+list_any-inserted : (t : Object → Bool) (o : Object) (os : List Object) → list_any t os ≡ true → list_any t (inserted o os) ≡ true
+list_any-inserted t o [] h = absurd (false≢true h)
+list_any-inserted t o (p ∷ ps) h =
+    cond_both (nat_lt p.base o.base) (p ∷ inserted o ps) (o ∷ p ∷ ps) (λ l. list_any t l ≡ true) (λ e. elim (or_cases (t p) (list_any t ps) h) as (λ _. (t p || list_any t (inserted o ps)) ≡ true) [
+      | inl a ↦ or_left (t p) (list_any t (inserted o ps)) a
+      | inr a ↦ or_right (t p) (list_any t (inserted o ps)) (list_any-inserted t o ps a)
+    ]) (λ e. or_right (t o) (t p || list_any t ps) h)
+
+-- an object that begins elsewhere
+pub load-added_elsewhere : (m : MemoryMeaning) (o : Object) (start : Cell) (d : Chunk) (x : ℕ) → is_right m.objects d (Word x) ≡ true → (x + chunk_size d ≤ o.base) ⊎ (o.base + o.size ≤ x) → load (added o start m) d (Word x) ≡ load m d (Word x)
+load-added_elsewhere m o start d x r apart =
+    let parts = and_parts (x % chunk_size d == 0) (list_any (λ o. holds o x (chunk_size d)) m.objects) r in
+    let right : is_right (inserted o m.objects) d (Word x) ≡ true = and_from (x % chunk_size d == 0) (list_any (λ p. holds p x (chunk_size d)) (inserted o m.objects)) parts.0 (list_any-inserted (λ p. holds p x (chunk_size d)) o m.objects parts.1) in
+    let same = cells_from-same (added o start m).cells m.cells x (chunk_size d) (λ y l h. cond-false (is_in o.base o.size y) start (m.cells y) (outside o.base o.size y l h apart)) in
+    cond-true (is_right (inserted o m.objects) d (Word x)) (Some (value_at (added o start m).cells d (Word x))) None right ∙ (ap (λ l. Some (value_of d l)) same ∙ sym (cond-true (is_right m.objects d (Word x)) (Some (value_at m.cells d (Word x))) None r))
+  where
+    outside : (b n y : ℕ) → x ≤ y → y < x + chunk_size d → (x + chunk_size d ≤ b) ⊎ (b + n ≤ x) → is_in b n y ≡ false
+    outside b n y l h (inl p) = let q : y < b = omega arith in grind (arith, nat_tests)
+    outside b n y l h (inr p) = let q : b + n ≤ y = omega arith in grind (arith, nat_tests)
+
+-- a Place elsewhere, where the object of the range does not meet it
+pub load-place_elsewhere : (m : MemoryMeaning) (base size : ℕ) (d : Chunk) (x : ℕ) → is_right (unmet base size m.objects) d (Word x) ≡ true → is_right m.objects d (Word x) ≡ true → (x + chunk_size d ≤ base) ⊎ (base + size ≤ x) → loaded (applied m (Place base size)) d (Word x) ≡ load m d (Word x)
+load-place_elsewhere m base size d x r q apart =
+    load-added_elsewhere (only (unmet base size m.objects) m) (local base size) Blank d x r apart ∙ load-only m (λ o. not (is_met base size o)) d x r q

@@ -9,6 +9,7 @@
 #![tactic(auto)]
 
 pub mod buffer;
+pub mod laws;
 pub mod memory;
 pub mod object;
 mod pages;
