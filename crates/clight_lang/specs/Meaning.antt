@@ -1,5 +1,5 @@
 -- What ClightTSO means for a program whose main returns a constant (after ClightTSO of CompCertTSO; the statements and rests of the whole language are not built yet, so a thread's place is one of four).
-use Rattle.std.specs.Prelude.{◌≢◌, ℕ, [], ◌∷◌, Option, Some, None, nat_eq, if◌then◌else◌, refl}
+use Rattle.std.specs.Prelude.{◌≢◌, ℕ, ◌+◌, ◌*◌, [], ◌∷◌, Option, Some, None, nat_eq, if◌then◌else◌, refl}
 use Rattle.std.specs.Cmp.Lexicographic.{pointwise}
 use Rattle.tso_words.specs.declared.value.Val.TheVariants.{Word}
 use Rattle.tso_core.specs.declared.offer.Offer.{Offer}
@@ -16,9 +16,13 @@ main = 109 ∷ 97 ∷ 105 ∷ 110 ∷ []
 abbrev pub main_alone : GlobalsOf
 main_alone = record { functions = main ∷ []; objects = [] }
 
--- the frame size of main: 56 bytes, and 64 for each of its three nodes
+-- the nodes of main: the block that is its body, the statement that returns, and the constant
+abbrev pub main_nodes : ℕ
+main_nodes = 3
+
+-- the frame size of main: 56 bytes, and 64 for each of its nodes
 abbrev pub stated : Names → Option ℕ
-stated f = if pointwise nat_eq f main then Some 248 else None
+stated f = if pointwise nat_eq f main then Some (56 + 64 * main_nodes) else None
 
 -- what a thread offers, and where it goes on: it enters the function, takes the block apart, returns the constant, and leaves
 abbrev pub offers : Thread → Offer

@@ -52,7 +52,7 @@ impl Program {
     }
 
     ghost use Rattle.tso_core.specs.Stated.{globals_of};
-    ghost use Rattle.clight_lang.specs.Meaning.{main, main_alone, stated};
+    ghost use Rattle.clight_lang.specs.Meaning.{main, main_alone, main_nodes, stated};
 
     /// Its functions and globals: `main` alone.
     pub fn globals(&self) -> &Globals
@@ -63,7 +63,7 @@ impl Program {
 
     /// The room of `main`: a block, a statement and a constant, and no locals.
     pub fn room(&self) -> Room
-        ensures nodes { result.nodes ≡ 3 }
+        ensures nodes { result.nodes ≡ main_nodes }
         ensures stated { stated main ≡ Some result.stated }
         ensures needed { result.needed ≡ 0 }
     {

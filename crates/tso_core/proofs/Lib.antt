@@ -11,3 +11,4 @@ pub mod Copies
 pub mod Waiting
 pub mod Places
 pub mod Safely
+pub mod Theorem

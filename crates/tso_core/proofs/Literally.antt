@@ -16,7 +16,7 @@ module _ (p q : System) (k : ℕ) (s : p.State) (t : q.State) (right : p.status 
   runs_to : (n : ℕ) → IsRun p s (joined (take n pieces))
   runs_to n = front_runs p s (joined (take n pieces)) (joined (drop n pieces)) (subst (λ l. IsRun p s l) (sym (joined_split n pieces)) a.is_run)
 
-  not_wrong : (xs : List Step) → IsRun p s xs → ¬ MakesWrong p s xs → p.status (after p s xs) ≢ Wrong
+  pub not_wrong : (xs : List Step) → IsRun p s xs → ¬ MakesWrong p s xs → p.status (after p s xs) ≢ Wrong
   not_wrong [] run h e = right e
   not_wrong (x ∷ xs) run h e =
       let r = split_end x xs in

@@ -19,7 +19,7 @@ use Rattle.tso_memory.specs.declared.object.Object.{Object}
 use Rattle.tso_memory.specs.declared.buffer.Item.{Item}
 use Rattle.tso_memory.specs.declared.buffer.Item.TheVariants.{Put, Place, Lift}
 use Rattle.tso_memory.specs.Memory.{MemoryMeaning, meets, inserted, is_in, is_live, is_right, cells_from, value_at, load, cells_put, put, only, added, unmet, lifted, removed}
-use Rattle.tso_memory.specs.Buffer.{local, applied, and_then, view, loaded, is_lift, is_place, objects_lifted, places_lifted, unplaced, pending_ok, is_place_allowed, is_fit}
+use Rattle.tso_memory.specs.Buffer.{local, applied, and_then, view, loaded, is_lift, is_place, objects_lifted, places_lifted, unplaced, pending_ok, is_in_stacks, is_place_allowed}
 use Rattle.tso_core.specs.declared.Event.TheVariants as E
 use Rattle.tso_core.specs.declared.offer.Atomic.{Atomic}
 use Rattle.tso_core.specs.declared.offer.Atomic.TheVariants as A
@@ -144,26 +144,23 @@ own_same (a ∷ xs) (b ∷ ys) (suc i) h = own_same xs ys i h.1
 
 allowed_same : (os : List Object) (xs ys : List (List Item)) → AllZip ItemsBelow xs ys → (i base size align : ℕ) → is_place_allowed os xs i base size align ≡ is_place_allowed os ys i base size align
 allowed_same os xs ys h i base size align =
-    ap (λ z. is_fit base size align && (z && pending_ok base size i xs)) (objects_lifted_same base size _ _ (own_same xs ys i h) os)
-    ∙ ap (λ z. is_fit base size align && (objects_lifted base size (slice_index_or ys i []) os && z)) (pending_same base size i xs ys h)
+    ap (λ z. nat_lt 0 size && (nat_lt 0 align && ((base % align == 0) && (is_in_stacks base size && (z && pending_ok base size i xs))))) (objects_lifted_same base size _ _ (own_same xs ys i h) os)
+    ∙ ap (λ z. nat_lt 0 size && (nat_lt 0 align && ((base % align == 0) && (is_in_stacks base size && (objects_lifted base size (slice_index_or ys i []) os && z))))) (pending_same base size i xs ys h)
 
 -- tests that hold
 both_hold : (a b : Bool) → (a && b) ≡ true → (a ≡ true) × (b ≡ true)
 both_hold true b e = (refl, e)
 both_hold false b e = cc
 
-fit_word : (base size align : ℕ) → is_fit base size align ≡ true → base < 2 ^ 32
-fit_word base size align e =
-    let range = nat_le 0x90000000 base && nat_le (base + size) 0xF0000000 in
-    let e1 = both_hold (nat_lt 0 size) (nat_lt 0 align && ((base % align == 0) && range)) e in
-    let e2 = both_hold (nat_lt 0 align) ((base % align == 0) && range) e1.1 in
-    let e3 = both_hold (base % align == 0) range e2.1 in
-    let h : base + size ≤ 0xF0000000 = leb-true (base + size) 0xF0000000 (both_hold (nat_le 0x90000000 base) (nat_le (base + size) 0xF0000000) e3.1).1 in
-    omega arith
-
 allowed_word : (os : List Object) (xs : List (List Item)) (i base size align : ℕ) → is_place_allowed os xs i base size align ≡ true → base < 2 ^ 32
 allowed_word os xs i base size align e =
-    fit_word base size align (both_hold (is_fit base size align) (objects_lifted base size (slice_index_or xs i []) os && pending_ok base size i xs) e).0
+    let lifted = objects_lifted base size (slice_index_or xs i []) os && pending_ok base size i xs in
+    let e1 = both_hold (nat_lt 0 size) (nat_lt 0 align && ((base % align == 0) && (is_in_stacks base size && lifted))) e in
+    let e2 = both_hold (nat_lt 0 align) ((base % align == 0) && (is_in_stacks base size && lifted)) e1.1 in
+    let e3 = both_hold (base % align == 0) (is_in_stacks base size && lifted) e2.1 in
+    let e4 = both_hold (is_in_stacks base size) lifted e3.1 in
+    let h : base + size ≤ 0xF0000000 = leb-true (base + size) 0xF0000000 (both_hold (nat_le 0x90000000 base) (nat_le (base + size) 0xF0000000) e4.0).1 in
+    omega arith
 
 block_word : (os : List Object) (base size : ℕ) → is_block_allowed os base size ≡ true → base < 2 ^ 32
 block_word os base size e =

@@ -11,7 +11,7 @@ use Rattle.tso_memory.specs.declared.object.Object.{Object}
 use Rattle.tso_memory.specs.declared.buffer.Item.{Item}
 use Rattle.tso_memory.specs.declared.buffer.Item.TheVariants.{Put, Place, Lift}
 use Rattle.tso_memory.specs.Memory.{meets, is_met, is_at, inserted, unmet, lifted, removed}
-use Rattle.tso_memory.specs.Buffer.{local, is_lift, objects_lifted, places_lifted, unplaced, pending_ok, is_fit, is_place_allowed}
+use Rattle.tso_memory.specs.Buffer.{local, is_lift, objects_lifted, places_lifted, unplaced, pending_ok, is_in_stacks, is_place_allowed}
 use Rattle.tso_core.specs.Systems.{Places}
 use Rattle.tso_core.specs.Language.{Language, IsThread}
 use Rattle.tso_core.specs.Shared.{items_or_none, is_heap, heap_at}
@@ -228,13 +228,13 @@ pub record IsAllowed (os : List Object) (buffers : List (List Item)) (i b n : �
 
 pub allowed : (os : List Object) (buffers : List (List Item)) (i b n align : ℕ) → is_place_allowed os buffers i b n align ≡ true → IsAllowed os buffers i b n
 allowed os buffers i b n align e =
-    let range = nat_le 0x90000000 b && nat_le (b + n) 0xF0000000 in
-    let e0 = both (is_fit b n align) (objects_lifted b n (slice_index_or buffers i []) os && pending_ok b n i buffers) e in
-    let e1 = both (nat_lt 0 n) (nat_lt 0 align && ((b % align == 0) && range)) e0.0 in
-    let e2 = both (nat_lt 0 align) ((b % align == 0) && range) e1.1 in
-    let e3 = both (b % align == 0) range e2.1 in
-    let e5 = both (objects_lifted b n (slice_index_or buffers i []) os) (pending_ok b n i buffers) e0.1 in
-    let e6 = both (nat_le 0x90000000 b) (nat_le (b + n) 0xF0000000) e3.1 in
+    let lifted = objects_lifted b n (slice_index_or buffers i []) os && pending_ok b n i buffers in
+    let e1 = both (nat_lt 0 n) (nat_lt 0 align && ((b % align == 0) && (is_in_stacks b n && lifted))) e in
+    let e2 = both (nat_lt 0 align) ((b % align == 0) && (is_in_stacks b n && lifted)) e1.1 in
+    let e3 = both (b % align == 0) (is_in_stacks b n && lifted) e2.1 in
+    let e4 = both (is_in_stacks b n) lifted e3.1 in
+    let e5 = both (objects_lifted b n (slice_index_or buffers i []) os) (pending_ok b n i buffers) e4.1 in
+    let e6 = both (nat_le 0x90000000 b) (nat_le (b + n) 0xF0000000) e4.0 in
     let lt : 0 < n = ltb-true 0 n e1.0 in
     let top : b + n ≤ 0xF0000000 = leb-true (b + n) 0xF0000000 e6.1 in
     record {

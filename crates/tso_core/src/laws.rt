@@ -11,6 +11,7 @@ ghost use Rattle.tso_core.specs.Ties.{Relation, IsMachineTie};
 ghost use Rattle.tso_core.specs.Language.{Language};
 ghost use Rattle.tso_core.specs.Machine.{open_machine, machine};
 ghost use Rattle.tso_core.specs.Locals.{AreSafe};
+ghost use Rattle.tso_core.specs.Theorem.{EveryRunMatched};
 ghost use Rattle.tso_core.specs.Simulation.{ThreadSimulation};
 
 use crate::language::ThreadLang;
@@ -98,4 +99,11 @@ pub fn sim_lifts<S: ThreadSim>(p: &S::Source, q: &S::Target)
 /// no live object meets a Place, and the object of a Lift is live.
 pub fn locals_are_safe<L: ThreadLang>(p: &L::Program)
     ensures { (at : Places) (steps : List Step) → AreSafe (after (open_machine (L.language p.now)) ((open_machine (L.language p.now)).opening at) steps).shared }
+{}
+
+/// The compiler theorem follows from refinement, where the source is a program of a thread language
+/// on its machine: every run of the target has pieces of the source that match it step by step, and
+/// where the target wants heap or stack the source has the cause.
+pub fn every_run_is_matched<L: ThreadLang, Q: Traced>(p: &L::Program, q: &Q::Program)
+    ensures { (pace : ℕ) → Refines (machine (L.language p.now)) (Q.system q.now) pace → EveryRunMatched (machine (L.language p.now)) (Q.system q.now) pace }
 {}

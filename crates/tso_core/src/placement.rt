@@ -100,3 +100,46 @@ impl Placement {
         self.list.iter().find(|e| e.0 == *name).map(|e| e.1)
     }
 }
+
+#[cfg(test)]
+mod tests {
+    use super::*;
+    use std::alloc::Global as Heap;
+    use std::test::Fail;
+
+    fn program(alloc: Heap) -> Result<Globals, Fail> {
+        let mut functions = Vec::new(alloc);
+        functions.push(Name::made(alloc, b"main")?)?;
+        let mut objects = Vec::new(alloc);
+        objects.push(Global {
+            name: Name::made(alloc, b"x")?,
+            size: 8,
+            align: 4,
+            start: [7, 0, 0, 0].to_vec(alloc)?,
+        })?;
+        Ok(Globals { functions, objects })
+    }
+
+    #[test]
+    fn copies(rt: HostRuntime) -> Result<(), Fail> {
+        let copy = program(rt.alloc())?.clone()?;
+        assert_eq!(rt; copy.functions.len(), 1);
+        assert_eq!(rt; copy.objects.len(), 1);
+        let x = &copy.objects[0];
+        assert_eq!(rt; x.name.bytes(), b"x".as_slice());
+        assert_eq!(rt; (x.size, x.align), (8, 4));
+        assert_eq!(rt; x.start.as_slice(), [7, 0, 0, 0].as_slice());
+        Ok(())
+    }
+
+    #[test]
+    fn finds(rt: HostRuntime) -> Result<(), Fail> {
+        let alloc = rt.alloc();
+        let x = Name::made(alloc, b"x")?;
+        let list = Vec::from_array(alloc, [(Name::made(alloc, b"x")?, 0x2000_0000)])?;
+        let at = Placement::made(list);
+        assert_eq!(rt; at.find(&x), Some(0x2000_0000));
+        assert_eq!(rt; at.find(&Name::made(alloc, b"y")?), None);
+        Ok(())
+    }
+}

@@ -1,9 +1,12 @@
 -- Lists of items.
-use Rattle.std.proofs.Common.{◌≡◌, ℕ, zero, suc, ◌+◌, ◌-◌, ◌<◌, Bool, true, false, List, [], ◌∷◌, ◌++◌, length, get_or, take, drop, map, refl, ap, ◌∙◌, subst, sym, arith, ◌&&◌, if◌then◌else◌}
+use Rattle.std.proofs.Common.{◌≡◌, ℕ, zero, suc, ◌+◌, ◌-◌, ◌%◌, ◌==◌, nat_lt, ◌<◌, Bool, true, false, List, [], ◌∷◌, ◌++◌, length, get_or, take, drop, map, refl, ap, ◌∙◌, subst, sym, arith, ◌&&◌, if◌then◌else◌}
 use Rattle.std.specs.List.{list_all}
-use Rattle.std.proofs.lemmas.List.{take_rest}
+use Rattle.std.proofs.lemmas.List.{take_rest, drop_more, get_or-map}
+use Rattle.tso_memory.specs.declared.object.Object.{Object}
 use Rattle.tso_memory.specs.declared.buffer.Item.{Item}
-use Rattle.tso_memory.specs.Buffer.{BufferMeaning, IsSoundItem, AreSoundItems, unplaced, places_lifted, pending_ok}
+use Rattle.tso_memory.specs.declared.buffer.Item.TheVariants.{Put, Place, Lift}
+use Rattle.tso_memory.specs.Buffer.{BufferMeaning, IsSoundItem, AreSoundItems, unplaced, places_lifted, pending_ok, objects_lifted, is_in_stacks, is_place_allowed}
+use Rattle.tso_memory.specs.Through.{is_lifted_by, is_fit}
 
 AreSoundItems-push : (xs : List Item) (i : Item) → AreSoundItems xs → IsSoundItem i → AreSoundItems (xs ++ i ∷ [])
 AreSoundItems-push [] i h s = (s, tt)
@@ -38,3 +41,31 @@ module _ (base size t : ℕ) (bs : List BufferMeaning) (d : BufferMeaning) (h : 
 
   pub pending_rest : (own rest : Bool) → front ≡ true → own ≡ places_lifted base size (get_or bs t d).items → own ≡ true → rest ≡ list_all (λ b. unplaced base size b.items) (take (length bs - (t + 1)) (drop (t + 1) bs)) → rest ≡ pending_ok base size t (map (λ b. b.items) bs)
   pending_rest own rest f g k r = sym (pending-parts base size t bs d h ∙ (ap (λ z. z && (places_lifted base size (get_or bs t d).items && list_all (λ b. unplaced base size b.items) (drop (t + 1) bs))) (sym e ∙ f) ∙ (ap (λ z. z && list_all (λ b. unplaced base size b.items) (drop (t + 1) bs)) (sym g ∙ k) ∙ sym (r ∙ ap (list_all (λ b. unplaced base size b.items)) (take_rest bs (t + 1))))))
+
+-- a walk over the items for Places without their Lifts
+places_lifted-cons : (base size : ℕ) (i : Item) (is : List Item) → places_lifted base size (i ∷ is) ≡ (is_lifted_by base size is i && places_lifted base size is)
+places_lifted-cons base size (Put c a v) is = refl
+places_lifted-cons base size (Place b n) is = refl
+places_lifted-cons base size (Lift b n) is = refl
+
+pub places_lifted_step : (base size k : ℕ) (is : List Item) (d : Item) (b : Bool) → k < length is → b ≡ is_lifted_by base size (take (length is - (k + 1)) (drop (k + 1) is)) (get_or is k d) → places_lifted base size (drop k is) ≡ places_lifted base size is → (b && places_lifted base size (drop (k + 1) is)) ≡ places_lifted base size is
+places_lifted_step base size k is d b h e f =
+    sym (ap (places_lifted base size) (drop_more is k d h) ∙ (places_lifted-cons base size (get_or is k d) (drop (k + 1) is) ∙ ap (λ z. z && places_lifted base size (drop (k + 1) is)) (sym (e ∙ ap (λ z. is_lifted_by base size z (get_or is k d)) (take_rest is (k + 1)))))) ∙ f
+
+-- the parts of what allows a Place
+pub allowed-parts : (os : List Object) (buffers : List (List Item)) (thread base size align : ℕ) → (is_fit base size align && (objects_lifted base size (get_or buffers thread []) os && pending_ok base size thread buffers)) ≡ is_place_allowed os buffers thread base size align
+allowed-parts os buffers thread base size align = regroup (nat_lt 0 size) (nat_lt 0 align) (base % align == 0) (is_in_stacks base size) (objects_lifted base size (get_or buffers thread []) os && pending_ok base size thread buffers)
+  where
+    regroup : (a b c d e : Bool) → ((a && (b && (c && d))) && e) ≡ (a && (b && (c && (d && e))))
+    regroup true true true d e = refl
+    regroup true true false d e = refl
+    regroup true false c d e = refl
+    regroup false b c d e = refl
+
+pub allowed_unfit : (os : List Object) (buffers : List (List Item)) (thread base size align : ℕ) → is_fit base size align ≡ false → false ≡ is_place_allowed os buffers thread base size align
+allowed_unfit os buffers thread base size align e = sym (sym (allowed-parts os buffers thread base size align) ∙ ap (λ z. z && (objects_lifted base size (get_or buffers thread []) os && pending_ok base size thread buffers)) e)
+
+pub allowed_fit : (os : List Object) (bs : List BufferMeaning) (thread base size align : ℕ) (x : BufferMeaning) → thread < length bs → x ≡ get_or bs thread x → is_fit base size align ≡ true → (own rest : Bool) → own ≡ objects_lifted base size x.items os → rest ≡ pending_ok base size thread (map (λ b. b.items) bs) → (own && rest) ≡ is_place_allowed os (map (λ b. b.items) bs) thread base size align
+allowed_fit os bs thread base size align x h f e own rest p q =
+    let own_is : x.items ≡ get_or (map (λ b. b.items) bs) thread [] = ap (λ z. z.items) f ∙ sym (get_or-map (λ b. b.items) bs thread x [] h) in
+    ap (λ z. z && rest) (p ∙ ap (λ z. objects_lifted base size z os) own_is) ∙ (ap (λ z. objects_lifted base size (get_or (map (λ b. b.items) bs) thread []) os && z) q ∙ (ap (λ z. z && (objects_lifted base size (get_or (map (λ b. b.items) bs) thread []) os && pending_ok base size thread (map (λ b. b.items) bs))) (sym e) ∙ allowed-parts os (map (λ b. b.items) bs) thread base size align))

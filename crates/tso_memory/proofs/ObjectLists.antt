@@ -1,8 +1,8 @@
 -- Lists of objects in order: searches, insertions and filters.
-use Rattle.std.proofs.Common.{◌≡◌, ℕ, zero, suc, ◌+◌, ◌-◌, ◌<◌, ◌≤◌, Bool, true, false, List, [], ◌∷◌, ◌++◌, length, get_or, take, drop, Option, Some, None, refl, sym, ap, ◌∙◌, inl, inr, ◌⊎◌, arith, if◌then◌else◌, ◌==◌, ◌&&◌, ◌||◌, ◌%◌, nat_le, nat_lt, cond, is_some}
+use Rattle.std.proofs.Common.{◌≡◌, ℕ, zero, suc, ◌+◌, ◌-◌, ◌<◌, ◌≤◌, Bool, true, false, not, List, [], ◌∷◌, ◌++◌, length, get_or, take, drop, Option, Some, None, refl, sym, ap, ◌∙◌, inl, inr, ◌⊎◌, arith, if◌then◌else◌, ◌==◌, ◌&&◌, ◌||◌, ◌%◌, nat_le, nat_lt, cond, is_some}
 use Rattle.std.specs.List.{find, list_any}
 use Rattle.std.specs.List.Sorted.{IsPartitionedBy, IsPartitionPoint}
-use Rattle.std.proofs.lemmas.Bool.{lt-ltb, le-ltb, le-leb, lt-leb, leb-true, leb-false, ltb-true, ltb-false, eq-eqb, cond-true, and_left, and_right, and_parts, or_cases, or_right}
+use Rattle.std.proofs.lemmas.Bool.{false≢true, true≢false, lt-ltb, le-ltb, le-leb, lt-leb, leb-true, leb-false, ltb-true, ltb-false, eq-eqb, cond-true, and_left, and_right, and_parts, or_cases, or_right}
 use Rattle.std.proofs.lemmas.Bool.Decides.{nat_tests}
 use Rattle.tso_words.specs.declared.value.Cell.{Cell}
 use Rattle.tso_words.specs.declared.value.Cell.TheVariants.{Blank, Byte}
@@ -182,3 +182,8 @@ size_one c (inr e) = ap chunk_size e
 pub size_two : (c : Chunk) → (c ≡ I16s) ⊎ (c ≡ I16u) → chunk_size c ≡ 2
 size_two c (inl e) = ap chunk_size e
 size_two c (inr e) = ap chunk_size e
+
+-- a test that answers the contrary
+pub apart_iff : (r x : Bool) → r ≡ x → (not r ≡ true → x ≡ false) × (x ≡ false → not r ≡ true)
+apart_iff true x e = (λ t. absurd (false≢true t), λ f. absurd (true≢false (e ∙ f)))
+apart_iff false x e = (λ t. sym e, λ f. refl)

@@ -66,14 +66,11 @@ abbrev pub objects_lifted : (base size : ℕ) → List Item → List Object → 
 objects_lifted base size own os = list_all (λ o. not (meets o.base o.size base size) || list_any (is_lift o.base o.size) own) os
 
 -- each Place among the items that meets the range has its Lift behind it
-abbrev pub is_lifted_by : (base size : ℕ) → (behind : List Item) → Item → Bool
-is_lifted_by base size behind (Put chunk addr val) = true
-is_lifted_by base size behind (Place b n) = not (meets b n base size) || list_any (is_lift b n) behind
-is_lifted_by base size behind (Lift b n) = true
-
 abbrev pub places_lifted : (base size : ℕ) → List Item → Bool
 places_lifted base size [] = true
-places_lifted base size (i ∷ is) = is_lifted_by base size is i && places_lifted base size is
+places_lifted base size (Put chunk addr val ∷ is) = places_lifted base size is
+places_lifted base size (Place b n ∷ is) = (not (meets b n base size) || list_any (is_lift b n) is) && places_lifted base size is
+places_lifted base size (Lift b n ∷ is) = places_lifted base size is
 
 -- no Place among the items meets the range
 abbrev pub unplaced : (base size : ℕ) → List Item → Bool
@@ -85,10 +82,10 @@ pending_ok base size thread [] = true
 pending_ok base size zero (own ∷ others) = places_lifted base size own && list_all (unplaced base size) others
 pending_ok base size (suc thread) (other ∷ buffers) = unplaced base size other && pending_ok base size thread buffers
 
--- the range has at least one byte, its base is a multiple of the alignment, and it lies in the stacks' range
-abbrev pub is_fit : (base size align : ℕ) → Bool
-is_fit base size align = nat_lt 0 size && (nat_lt 0 align && ((base % align == 0) && (nat_le 0x90000000 base && nat_le (base + size) 0xF0000000)))
+-- the range is one of the stacks' range
+abbrev pub is_in_stacks : (base size : ℕ) → Bool
+is_in_stacks base size = nat_le 0x90000000 base && nat_le (base + size) 0xF0000000
 
--- a thread may place an object: the range is fit, each live object that it meets has its Lift in the thread's buffer, and each pending Place that it meets stands in the thread's buffer with its Lift behind it
+-- a thread may place an object: the range has at least one byte, its base is a multiple of the alignment, it lies in the stacks' range, each live object that it meets has its Lift in the thread's buffer, and each pending Place that it meets stands in the thread's buffer with its Lift behind it
 abbrev pub is_place_allowed : List Object → List (List Item) → (thread base size align : ℕ) → Bool
-is_place_allowed os buffers thread base size align = is_fit base size align && (objects_lifted base size (slice_index_or buffers thread []) os && pending_ok base size thread buffers)
+is_place_allowed os buffers thread base size align = nat_lt 0 size && (nat_lt 0 align && ((base % align == 0) && (is_in_stacks base size && (objects_lifted base size (slice_index_or buffers thread []) os && pending_ok base size thread buffers))))

@@ -1,4 +1,5 @@
 pub mod Buffer
 pub mod Kept
+pub mod Laws
 pub mod Memory
 pub mod Through

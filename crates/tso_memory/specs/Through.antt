@@ -1,5 +1,6 @@
 -- What each item does to the objects, to the object with a range, and to one cell: a view without its whole memory.
-use Rattle.std.specs.Prelude.{ℕ, ◌-◌, Bool, true, List, [], ◌∷◌, Option, Some, None, ◌&&◌, if◌then◌else◌}
+use Rattle.std.specs.Prelude.{ℕ, ◌-◌, Bool, true, not, List, [], ◌∷◌, Option, Some, None, ◌&&◌, ◌||◌, ◌%◌, ◌==◌, nat_lt, if◌then◌else◌}
+use Rattle.std.specs.List.{list_any}
 use Rattle.tso_words.specs.declared.value.Val.TheVariants.{Undef, Word}
 use Rattle.tso_words.specs.declared.value.Cell.{Cell}
 use Rattle.tso_words.specs.declared.value.Cell.TheVariants.{Blank}
@@ -7,8 +8,8 @@ use Rattle.tso_words.specs.Words.{chunk_size, byte_of}
 use Rattle.tso_memory.specs.declared.object.Object.{Object}
 use Rattle.tso_memory.specs.declared.buffer.Item.{Item}
 use Rattle.tso_memory.specs.declared.buffer.Item.TheVariants.{Put, Place, Lift}
-use Rattle.tso_memory.specs.Memory.{is_in, is_right, holds, is_met, is_at, inserted, unmet, lifted}
-use Rattle.tso_memory.specs.Buffer.{local}
+use Rattle.tso_memory.specs.Memory.{meets, is_in, is_right, holds, is_met, is_at, inserted, unmet, lifted}
+use Rattle.tso_memory.specs.Buffer.{local, is_lift, is_in_stacks}
 
 -- the objects after an item, and after all of them
 abbrev pub objects_at : Item → List Object → List Object
@@ -56,3 +57,13 @@ cell_after (Lift base size) x cell = cell
 abbrev pub cell_through : List Item → ℕ → Cell → Cell
 cell_through [] x cell = cell
 cell_through (i ∷ is) x cell = cell_through is x (cell_after i x cell)
+
+-- the item is no Place that meets the range, or its Lift stands behind it
+abbrev pub is_lifted_by : (base size : ℕ) → (behind : List Item) → Item → Bool
+is_lifted_by base size behind (Put chunk addr val) = true
+is_lifted_by base size behind (Place b n) = not (meets b n base size) || list_any (is_lift b n) behind
+is_lifted_by base size behind (Lift b n) = true
+
+-- the range may hold an object of a stack, whatever else is there
+abbrev pub is_fit : (base size align : ℕ) → Bool
+is_fit base size align = nat_lt 0 size && (nat_lt 0 align && ((base % align == 0) && is_in_stacks base size))

@@ -9,6 +9,7 @@
 #![tactic(auto)]
 
 pub mod buffer;
+pub mod laws;
 pub mod memory;
 pub mod object;
 mod pages;
@@ -20,3 +21,6 @@ pub use memory::{ApplyRefusal, Memory, WrongAccess};
 pub use object::{Kind, Object};
 pub use placing::place_ok;
 pub use view::view_load;
+
+#[cfg(test)]
+mod tests;

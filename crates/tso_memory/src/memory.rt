@@ -8,7 +8,8 @@ ghost use Rattle.tso_words.specs.declared.value.Cell.TheVariants.{Blank, Byte};
 
 use crate::buffer::Item;
 use crate::object::{
-    Kind, Object, end_at, end_lifted, end_met, find_object, insert_object, is_held, is_live_at,
+    Kind, Object, end_at, end_lifted, end_met, find_object, insert_object, is_any_met, is_held,
+    is_live_at,
 };
 use crate::pages::Pages;
 use std::alloc::Global;
@@ -73,6 +74,13 @@ impl Memory {
         ensures in_order { AreObjects 0 self.now.objects }
     {
         self.objects.as_slice()
+    }
+
+    /// Whether no live object shares a byte with the `size` bytes from `base` on.
+    pub fn is_apart(&self, base: u32, size: u32) -> bool
+        ensures { IsTrue result ↔ IsApart base size self.now.objects }
+    {
+        !is_any_met(&self.objects, base, size)
     }
 
     /// Whether the access is right.

@@ -87,6 +87,13 @@ pub(crate) fn is_live_at(objects: &[Object], x: u32) -> bool
     }
 }
 
+/// Whether one of the objects meets a range.
+pub(crate) fn is_any_met(objects: &[Object], base: u32, size: u32) -> bool
+    ensures { result ≡ list_any (is_met base size) objects.now }
+{
+    objects.iter().any(|o| o.meets(base, size))
+}
+
 /// Puts an object at its place.
 pub(crate) fn insert_object(objects: &mut Vec<Object>, o: Object) -> Result<(), AllocError>
     requires { AreObjects 0 objects.old.items }

@@ -1,8 +1,9 @@
 //! Where a thread may place the object of a local.
 ghost use Rattle.std.specs.Prelude.{◌≡◌, ℕ, ◌<◌, length, map, drop};
-ghost use Rattle.tso_memory.specs.Buffer.{is_place_allowed, places_lifted, unplaced, objects_lifted, pending_ok, is_lift, is_place, is_lifted_by, is_fit};
+ghost use Rattle.tso_memory.specs.Buffer.{is_place_allowed, places_lifted, unplaced, objects_lifted, pending_ok, is_lift, is_place};
 ghost use Rattle.std.specs.List.{list_any, list_all};
 ghost use Rattle.tso_memory.specs.Kept.{memory_of};
+ghost use Rattle.tso_memory.specs.Through.{is_lifted_by, is_fit};
 ghost use Rattle.tso_memory.specs.Memory.{meets};
 
 use crate::buffer::{Buffer, Item};
@@ -140,7 +141,9 @@ pub fn place_ok(
     requires { thread < length buffers.now }
     ensures { result ≡ is_place_allowed (memory_of m.now).objects (map (λ b. b.items) buffers.now) thread base size align }
 {
-    is_fit(base, size, align)
-        && are_objects_lifted(m.objects(), buffers[thread].items(), base, size)
+    if !is_fit(base, size, align) {
+        return false;
+    }
+    are_objects_lifted(m.objects(), buffers[thread].items(), base, size)
         && is_pending_ok(buffers, thread, base, size)
 }

@@ -2,13 +2,14 @@
 use Rattle.std.specs.Prelude.{◌≡◌, ℕ, ◌+◌, ◌*◌, ◌^◌, ◌≤◌, List, [], ◌∷◌, ◌++◌, codes, decimal}
 use Rattle.tso_core.specs.declared.Step.{Step}
 use Rattle.tso_core.specs.Systems.{IsRun}
-use Rattle.tso_core.specs.Matching.{Matches}
+use Rattle.tso_core.specs.Theorem.{MatchedRun}
+use Rattle.tso_core.specs.Machine.{machine}
+use Rattle.clight_lang.specs.Meaning.{language, main_nodes}
 use Rattle.x86_lang.specs.declared.asm.Instr.TheVariants.{MoveToEax, Return}
 use Rattle.x86_lang.specs.Assembly.{Assembly, labels}
 use Rattle.x86_lang.specs.X86Tso.{x86_system}
 use Rattle.tso_top.specs.Statuses.{line}
 use Rattle.tso_top.specs.Tokens.{TenTokens}
-use Rattle.tso_top.specs.First.{source_system, nodes}
 
 -- the seven lines of the text that returns n: those before its number, and those behind it
 abbrev pub text_front : List ℕ
@@ -20,24 +21,29 @@ text_back = line (codes ", %eax") ++ line (9 ∷ codes "ret")
 abbrev pub text_of : ℕ → List ℕ
 text_of n = text_front ++ (decimal n ++ text_back)
 
+-- the assembly that returns n: the number is moved into EAX, and returned
+abbrev pub returning : ℕ → Assembly
+returning n = record { pace = 1; main = 0; code = MoveToEax n ∷ Return ∷ [] }
+
 -- the assembly that a text is: so far, of these texts alone
 pub record AsmOf (text : List ℕ) (a : Assembly) : Type 0 where
   pub number : ℕ
   pub small : number ≤ 2147483647
   pub text_is : text ≡ text_of number
-  pub assembly_is : a ≡ record { pace = 1; main = 0; code = MoveToEax number ∷ Return ∷ [] }
+  pub assembly_is : a ≡ returning number
 
 -- the text is a compilation of the bytes
 pub record Compiles (bytes text : List ℕ) : Type 0 where
-  -- the bytes are the program 'return word', and the text is an assembly
+  -- the bytes are the ClightTSO program whose main returns 'word'
   pub word : ℕ
   pub means : TenTokens bytes word
+  -- the text is an assembly
   pub asm : Assembly
   pub is_assembly : AsmOf text asm
   -- the addresses of its labels are a placement that the program may have
-  pub labels_proper : (source_system word).IsProper (labels asm)
+  pub labels_proper : (machine (language word)).IsProper (labels asm)
   -- its pace is at least 1, and bounded by the size of the program's largest function
   pub some_pace : 1 ≤ asm.pace
-  pub pace_bound : asm.pace ≤ 2 ^ 96 * (nodes + 1)
-  -- for every list of x86-TSO steps that is a run of the assembly there are pieces of a run of the program, one per step, that match them
-  pub follows : (steps : List Step) → IsRun (x86_system asm) ((x86_system asm).opening (labels asm)) steps → (pieces : List (List Step)) × Matches (source_system word) (x86_system asm) asm.pace ((source_system word).opening (labels asm)) ((x86_system asm).opening (labels asm)) steps pieces
+  pub pace_bound : asm.pace ≤ 2 ^ 96 * (main_nodes + 1)
+  -- every run of the assembly on the x86-TSO machine, from the addresses of its labels, is matched by pieces of a run of the program on the ClightTSO machine, one for each step, up to the first step that makes the program wrong: the same events, the same threads begun and ended, no write buffered where the assembly has none, the same heap blocks, the same end, within the pace; and want of heap or of stack has its cause in the program
+  pub follows : (steps : List Step) → IsRun (x86_system asm) ((x86_system asm).opening (labels asm)) steps → MatchedRun (machine (language word)) (x86_system asm) asm.pace (labels asm) steps

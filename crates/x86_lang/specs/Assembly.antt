@@ -1,5 +1,5 @@
 -- An assembly text as data, and the addresses of its labels. Syntax after GNU as for the System V i386 ABI; the address map is this project's own. The code keeps the instructions in a vector.
-use Rattle.std.specs.Prelude.{◌≡◌, ℕ, ◌+◌, ◌<◌, ◌≤◌, List, [], ◌∷◌, codes, bytes_eq, Option, Some, None, if◌then◌else◌}
+use Rattle.std.specs.Prelude.{ℕ, ◌+◌, List, [], ◌∷◌, codes, bytes_eq, Option, Some, None, if◌then◌else◌}
 use Rattle.tso_core.specs.Systems.{Names, Places}
 use Rattle.x86_lang.specs.declared.asm.Instr.{Instr}
 use Rattle.x86_lang.specs.declared.asm.Asm.{Asm}
@@ -14,12 +14,9 @@ pub record Assembly : Type 0 where
 abbrev pub assembly_of : Asm → Assembly
 assembly_of a = record { pace = a.pace; main = a.main; code = a.code.items }
 
--- the address of an instruction, and the first address behind all that may be
+-- the address of an instruction
 abbrev pub address_of : ℕ → ℕ
 address_of i = 0x08000000 + i
-
-abbrev pub code_end : ℕ
-code_end = 0x20000000
 
 -- the labels with their addresses
 abbrev pub labels : Assembly → Places
@@ -29,10 +26,3 @@ labels a = (codes "main", address_of a.main) ∷ []
 abbrev pub address_in : Places → Names → Option ℕ
 address_in [] name = None
 address_in (place ∷ places) name = if bytes_eq place.0 name then Some place.1 else address_in places name
-
--- the placement has the name at an address where an instruction may stand
-pub record IsCodeLabel (at : Places) (name : Names) : Type 0 where
-  pub address : ℕ
-  pub is_there : address_in at name ≡ Some address
-  pub from_start : 0x08000000 ≤ address
-  pub before_end : address < code_end

@@ -1,5 +1,5 @@
 -- The x86-TSO machine (Owens, Sarkar and Sewell, 'A better x86 memory model: x86-TSO', 2009), as far as one thread needs that writes nothing: a register, the place of the next instruction, and whether the machine runs. Its store buffer stays empty, so no drain is ever enabled. The code changes its state in place.
-use Rattle.std.specs.Prelude.{ℕ, zero, suc, ◌+◌, ◌-◌, false, List, codes, leb, Option, Some, None, unwrap_or, slice_get, if◌then◌else◌}
+use Rattle.std.specs.Prelude.{◌≡◌, ℕ, zero, suc, ◌+◌, ◌-◌, false, List, codes, leb, Option, Some, None, unwrap_or, slice_get, if◌then◌else◌}
 use Rattle.tso_core.specs.declared.Step.{Step}
 use Rattle.tso_core.specs.declared.Step.TheVariants.{Run, Drain}
 use Rattle.tso_core.specs.declared.Event.{Event}
@@ -10,7 +10,7 @@ use Rattle.x86_lang.specs.declared.asm.Instr.{Instr}
 use Rattle.x86_lang.specs.declared.asm.Instr.TheVariants.{MoveToEax, Return}
 use Rattle.x86_lang.specs.declared.machine.X86Now.{X86Now}
 use Rattle.x86_lang.specs.declared.machine.X86Now.TheVariants.{Running, Exited, Fault}
-use Rattle.x86_lang.specs.Assembly.{Assembly, address_in, IsCodeLabel}
+use Rattle.x86_lang.specs.Assembly.{Assembly, labels, address_in}
 
 -- the place is the address of the next instruction
 pub record State : Type 0 where
@@ -51,11 +51,11 @@ status Running = system.Running
 status Exited = system.Exited
 status Fault = system.Wrong
 
--- the machine as the laws of refinement see it: one thread, which never ends by itself, no writes and no heap
+-- the machine as the laws of refinement see it: the placement is that of the labels, and there is one thread, which never ends by itself, and no writes and no heap
 abbrev pub x86_system : Assembly → System
 x86_system a = record {
   State = State;
-  IsProper = λ at. IsCodeLabel at (codes "main");
+  IsProper = λ at. at ≡ labels a;
   opening = opening;
   step = step a;
   status = λ s. status s.now;

@@ -10,6 +10,8 @@ mod asm;
 mod machine;
 #[cfg(test)]
 mod tests;
+mod traced;
 
 pub use asm::{Asm, Instr};
 pub use machine::{StepRefusal, X86Machine, X86Now, X86Out};
+pub use traced::X86Tso;

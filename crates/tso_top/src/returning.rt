@@ -1,0 +1,51 @@
+// From a program to its assembly.
+ghost use Rattle.std.specs.Prelude.{◌≡◌, IfOk};
+ghost use Rattle.tso_core.specs.Machine.{machine, open_machine};
+ghost use Rattle.tso_core.specs.Refinement.{Refines};
+ghost use Rattle.clight_lang.specs.Meaning.{language, open_language};
+ghost use Rattle.x86_lang.specs.Assembly.{assembly_of};
+ghost use Rattle.x86_lang.specs.X86Tso.{x86_system};
+ghost use Rattle.tso_top.specs.Compiles.{returning};
+ghost use Rattle.tso_top.specs.Returning.{Stands};
+ghost use Rattle.tso_top.specs.Returned.{returned_tied};
+
+use clight_lang::Program;
+use std::alloc::{AllocError, Global};
+use tso_core::laws::{MachineTie, tie_refines};
+use x86_lang::{Asm, Instr};
+
+/// The tie of a program with its two instructions.
+pub struct ReturnTie;
+
+impl MachineTie for ReturnTie {
+    type Source = Program;
+
+    type Target = Asm;
+
+    ghost source = { λ p. open_machine (open_language p) };
+
+    ghost target = { λ asm. x86_system (assembly_of asm) };
+
+    ghost IsPair = { λ p asm. assembly_of asm ≡ returning p };
+
+    ghost related = { λ p asm s t owed. Stands p s t owed };
+
+    ghost bound = { 1 };
+
+    ghost tied = { λ p asm pair. returned_tied p (assembly_of asm) pair };
+}
+
+/// The assembly of a program: the number that it returns is moved into EAX, and returned.
+pub fn assembly(alloc: Global, program: &Program) -> Result<Asm, AllocError>
+    ensures code { IfOk result (λ asm. assembly_of asm ≡ returning program.now) }
+    ensures refines { IfOk result (λ asm. Refines (machine (language program.now)) (x86_system (assembly_of asm)) 1) }
+{
+    let number = program.number();
+    let asm = Asm {
+        pace: 1,
+        main: 0,
+        code: vec![in alloc; Instr::MoveToEax { number }, Instr::Return]?,
+    };
+    tie_refines::<ReturnTie>(program, &asm);
+    Ok(asm)
+}
