@@ -1,20 +1,27 @@
 -- Lists of items.
-use Rattle.std.proofs.Common.{◌≡◌, ℕ, zero, suc, ◌+◌, ◌-◌, ◌%◌, ◌==◌, nat_lt, ◌<◌, Bool, true, false, List, [], ◌∷◌, ◌++◌, length, get_or, take, drop, map, refl, ap, ◌∙◌, subst, sym, arith, ◌&&◌, if◌then◌else◌}
+use Rattle.std.proofs.Common.{◌≡◌, ℕ, zero, suc, ◌+◌, ◌-◌, ◌%◌, ◌==◌, nat_lt, ◌<◌, Bool, true, false, List, [], ◌∷◌, ◌++◌, length, length-append, get_or, take, drop, map, refl, ap, ◌∙◌, sym, arith, ◌&&◌, if◌then◌else◌}
 use Rattle.std.specs.List.{list_all}
-use Rattle.std.proofs.lemmas.List.{take_rest, drop_more, get_or-map}
+use Rattle.std.proofs.lemmas.List.{take_rest, drop-append-le, drop_more, get_or-map}
 use Rattle.tso_memory.specs.declared.object.Object.{Object}
 use Rattle.tso_memory.specs.declared.buffer.Item.{Item}
 use Rattle.tso_memory.specs.declared.buffer.Item.TheVariants.{Put, Place, Lift}
 use Rattle.tso_memory.specs.Buffer.{BufferMeaning, IsSoundItem, AreSoundItems, unplaced, places_lifted, pending_ok, objects_lifted, is_in_stacks, is_place_allowed}
+use Rattle.tso_memory.specs.Kept.{IsQueue}
 use Rattle.tso_memory.specs.Through.{is_lifted_by, is_fit}
 
 AreSoundItems-push : (xs : List Item) (i : Item) → AreSoundItems xs → IsSoundItem i → AreSoundItems (xs ++ i ∷ [])
 AreSoundItems-push [] i h s = (s, tt)
 AreSoundItems-push (x ∷ xs) i h s = (h.0, AreSoundItems-push xs i h.1 s)
 
-pub AreSoundItems-pushed : (b : Bool) (xs ys : List Item) (i : Item) → ys ≡ (if b then xs ++ i ∷ [] else xs) → AreSoundItems xs → IsSoundItem i → AreSoundItems ys
-AreSoundItems-pushed true xs ys i e h s = subst AreSoundItems (sym e) (AreSoundItems-push xs i h s)
-AreSoundItems-pushed false xs ys i e h s = subst AreSoundItems (sym e) h
+IsQueue-push : (xs : List Item) (head : ℕ) (i : Item) → IsQueue xs head → IsSoundItem i → IsQueue (xs ++ i ∷ []) head
+IsQueue-push xs head i h s = record {
+  within = let longer : length (xs ++ i ∷ []) ≡ length xs + 1 = length-append xs (i ∷ []) in omega (arith, h.within);
+  sound = rw (drop-append-le head xs (i ∷ []) h.within) (AreSoundItems-push (drop head xs) i h.sound s);
+}
+
+pub IsQueue-pushed : (b : Bool) (xs ys : List Item) (head : ℕ) (i : Item) → ys ≡ (if b then xs ++ i ∷ [] else xs) → IsQueue xs head → IsSoundItem i → IsQueue ys head
+IsQueue-pushed true xs ys head i e h s = rw e (IsQueue-push xs head i h s)
+IsQueue-pushed false xs ys head i e h s = rw e h
 
 -- the pending items of the other threads and of one
 list_all-map : {X Y : Type 0} (p : Y → Bool) (f : X → Y) (xs : List X) → list_all p (map f xs) ≡ list_all (λ x. p (f x)) xs

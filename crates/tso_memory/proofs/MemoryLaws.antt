@@ -1,7 +1,7 @@
 -- Laws of memory and of the view, for the crates above.
-use Rattle.std.proofs.Common.{◌≡◌, ◌≢◌, ℕ, zero, suc, ◌+◌, ◌-◌, ◌%◌, ◌<◌, ◌≤◌, Bool, true, false, not, List, [], ◌∷◌, ◌++◌, Option, Some, None, refl, sym, ap, ◌∙◌, inl, inr, ◌⊎◌, arith, if◌then◌else◌, ◌&&◌, ◌||◌, ◌==◌, nat_le, nat_lt}
+use Rattle.std.proofs.Common.{◌≡◌, ℕ, zero, suc, ◌+◌, ◌-◌, ◌%◌, ◌<◌, ◌≤◌, Bool, true, false, not, List, [], ◌∷◌, ◌++◌, Option, Some, None, refl, sym, ap, ◌∙◌, inl, inr, ◌⊎◌, arith, if◌then◌else◌, ◌&&◌, ◌||◌, ◌==◌, nat_lt}
 use Rattle.std.specs.List.{filter, list_any}
-use Rattle.std.proofs.lemmas.Bool.{cases_lt, lt-leb, le-ltb, cond-true, cond-false, cond_both, and_left, and_right, and_parts, and_from, or_cases, or_left, or_right, leb-true, ltb-true, false≢true}
+use Rattle.std.proofs.lemmas.Bool.{cond-true, cond-false, cond_both, and_parts, and_from, or_cases, or_left, or_right, false≢true}
 use Rattle.std.proofs.lemmas.Bool.Decides.{nat_tests}
 use Rattle.tso_words.specs.declared.value.Val.{Val}
 use Rattle.tso_words.specs.declared.value.Val.TheVariants.{Undef, Word}
@@ -15,7 +15,6 @@ use Rattle.tso_memory.specs.declared.buffer.Item.TheVariants.{Put, Place, Lift}
 use Rattle.tso_memory.specs.Memory.{MemoryMeaning, holds, is_in, is_live, is_met, is_at, is_right, cells_from, value_at, load, cells_put, put, only, inserted, added, unmet, lifted}
 use Rattle.tso_memory.specs.Buffer.{local, applied, and_then, view, loaded}
 use Rattle.tso_memory.proofs.ObjectLists.{cells_from-same, live_held}
-use Rattle.tso_memory.proofs.KeptMemory.{is_live-inserted}
 
 -- ---- a load after a store
 

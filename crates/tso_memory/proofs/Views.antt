@@ -1,6 +1,6 @@
 -- The view, item by item: its objects, the object with a range, and one cell.
 use Rattle.std.proofs.Common.{◌≡◌, ℕ, zero, suc, ◌+◌, ◌-◌, ◌%◌, ◌<◌, ◌≤◌, Bool, true, false, not, List, [], ◌∷◌, ◌++◌, length, get_or, take, drop, replicate, Option, Some, None, refl, sym, ap, ◌∙◌, arith, if◌then◌else◌, ◌&&◌, ◌||◌, nat_le, nat_lt, cond, is_some}
-use Rattle.std.specs.List.{find, filter, list_any}
+use Rattle.std.specs.List.{find, filter, list_any, list_all}
 use Rattle.std.proofs.lemmas.List.{get_or_append_left, take_more, drop_more, drop_all}
 use Rattle.std.proofs.lemmas.Bool.{leb-true, eq-eqb, cond-true, cond-false, and_parts, or_parts, false≢true, true≢false}
 use Rattle.std.proofs.lemmas.Bool.Decides.{nat_tests}
@@ -16,7 +16,7 @@ use Rattle.tso_memory.specs.declared.buffer.Item.TheVariants.{Put, Place, Lift}
 use Rattle.tso_memory.specs.Memory.{MemoryMeaning, IsApart, AreObjects, holds, is_in, is_live, is_met, is_at, meets, is_right, unmet, lifted, inserted, added, only, cells_put, value_at}
 use Rattle.tso_memory.specs.Buffer.{local, applied, and_then, view, loaded, IsSoundItem, AreSoundItems}
 use Rattle.tso_memory.specs.Kept.{Kept, kept_at, memory_of}
-use Rattle.tso_memory.specs.Through.{objects_at, objects_after, is_right_item, all_right, unless, holder_after, holder_through, cell_after, cell_through}
+use Rattle.tso_memory.specs.Through.{objects_at, objects_after, is_right_item, is_store, all_right, unless, holder_after, holder_through, cell_after, cell_through}
 use Rattle.tso_memory.proofs.ObjectLists.{find_above, is_some-find, kept_known, size_positive, loaded_one, loaded_two, loaded_four}
 use Rattle.tso_memory.proofs.KeptMemory.{AreObjects-filter, AreObjects-inserted, IsApart-unmet, is_live-inserted, live_filtered, get_or-bytes_of, length-bytes_of}
 
@@ -113,6 +113,29 @@ all_right_step items k os d b h e f = sym (all_right_more items k os d h ∙ ap 
 
 pub all_right_end : (items : List Item) (k : ℕ) (os : List Object) → length items ≤ k → all_right (objects_after os (take k items)) (drop k items) ≡ all_right os items → true ≡ all_right os items
 all_right_end items k os h e = sym (ap (all_right (objects_after os (take k items))) (drop_all k items h)) ∙ e
+
+and_assoc : (a b c : Bool) → (a && (b && c)) ≡ ((a && b) && c)
+and_assoc true b c = refl
+and_assoc false b c = refl
+
+-- stores in front of other items leave the objects
+pub all_right_stores : (os : List Object) (is : List Item) (n : ℕ) → list_all is_store (take n is) ≡ true → (list_all (is_right_item os) (take n is) && all_right os (drop n is)) ≡ all_right os is
+all_right_stores os [] zero e = refl
+all_right_stores os [] (suc n) e = refl
+all_right_stores os (i ∷ is) zero e = refl
+all_right_stores os (Put c a v ∷ is) (suc n) e = sym (and_assoc (is_right os c a) (list_all (is_right_item os) (take n is)) (all_right os (drop n is))) ∙ ap (λ z. is_right os c a && z) (all_right_stores os is n e)
+all_right_stores os (Place b k ∷ is) (suc n) e = absurd (false≢true e)
+all_right_stores os (Lift b k ∷ is) (suc n) e = absurd (false≢true e)
+
+pub all_right_split : (os : List Object) (is front rest : List Item) (n : ℕ) (b d : Bool) → front ≡ take n is → rest ≡ drop n is → list_all is_store (take n is) ≡ true → b ≡ list_all (is_right_item os) front → d ≡ all_right os rest → (b && d) ≡ all_right os is
+all_right_split os is front rest n b d e f h p q =
+    ap (λ z. z && d) (p ∙ ap (list_all (is_right_item os)) e) ∙ (ap (λ z. list_all (is_right_item os) (take n is) && z) (q ∙ ap (all_right os) f) ∙ all_right_stores os is n h)
+
+pub AreSoundItems-drop : (is : List Item) (k : ℕ) → AreSoundItems is → AreSoundItems (drop k is)
+AreSoundItems-drop [] zero h = tt
+AreSoundItems-drop [] (suc k) h = tt
+AreSoundItems-drop (i ∷ is) zero h = h
+AreSoundItems-drop (i ∷ is) (suc k) h = AreSoundItems-drop is k h.1
 
 -- ---- the view
 

@@ -1,9 +1,11 @@
 -- What the fields of a memory stand for. The cells are kept in pages, an entry for each page number; a cell that no store or new object has touched has what its object began with.
-use Rattle.std.specs.Prelude.{◌≡◌, ℕ, ◌+◌, ◌*◌, ◌/◌, ◌%◌, ◌<◌, List, [], ◌∷◌, length, Option, Some, None, IsSome, slice_index_or, ◌&&◌, nat_lt, nat_le, if◌then◌else◌}
+use Rattle.std.specs.Prelude.{◌≡◌, ℕ, ◌+◌, ◌*◌, ◌/◌, ◌%◌, ◌<◌, ◌≤◌, List, [], ◌∷◌, length, drop, Option, Some, None, IsSome, slice_index_or, ◌&&◌, nat_lt, nat_le, if◌then◌else◌}
 use Rattle.std.specs.Option.{unwrap_or}
 use Rattle.tso_words.specs.declared.value.Cell.{Cell}
 use Rattle.tso_words.specs.declared.value.Cell.TheVariants.{Blank, Byte}
 use Rattle.tso_memory.specs.declared.object.Object.{Object}
+use Rattle.tso_memory.specs.declared.buffer.Item.{Item}
+use Rattle.tso_memory.specs.Buffer.{AreSoundItems}
 use Rattle.tso_memory.specs.Memory.{MemoryMeaning, AreObjects, is_live}
 
 -- pages of 16,384 cells: for each page number the place of its page, and the pages one after another
@@ -72,3 +74,8 @@ object_room length capacity pages = if nat_le (length + 1) capacity && nat_le 1 
 -- the memory without objects
 abbrev pub empty : MemoryMeaning
 empty = record { objects = []; cells = λ x. Blank }
+
+-- what the fields of a buffer keep: the items taken off lie in the list, and the others are sound
+pub record IsQueue (list : List Item) (head : ℕ) : Type 0 where
+  pub within : head ≤ length list
+  pub sound : AreSoundItems (drop head list)

@@ -1,5 +1,5 @@
 -- What each item does to the objects, to the object with a range, and to one cell: a view without its whole memory.
-use Rattle.std.specs.Prelude.{ℕ, ◌-◌, Bool, true, not, List, [], ◌∷◌, Option, Some, None, ◌&&◌, ◌||◌, ◌%◌, ◌==◌, nat_lt, if◌then◌else◌}
+use Rattle.std.specs.Prelude.{ℕ, ◌-◌, Bool, true, false, not, List, [], ◌∷◌, Option, Some, None, ◌&&◌, ◌||◌, ◌%◌, ◌==◌, nat_lt, if◌then◌else◌}
 use Rattle.std.specs.List.{list_any}
 use Rattle.tso_words.specs.declared.value.Val.TheVariants.{Undef, Word}
 use Rattle.tso_words.specs.declared.value.Cell.{Cell}
@@ -31,6 +31,12 @@ is_right_item os (Lift base size) = true
 abbrev pub all_right : List Object → List Item → Bool
 all_right os [] = true
 all_right os (i ∷ is) = is_right_item os i && all_right (objects_at i os) is
+
+-- the item is a store, which leaves the objects
+abbrev pub is_store : Item → Bool
+is_store (Put chunk addr val) = true
+is_store (Place base size) = false
+is_store (Lift base size) = false
 
 -- an object, unless the test ends it
 abbrev pub unless : (Object → Bool) → Option Object → Option Object

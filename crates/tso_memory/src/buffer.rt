@@ -20,19 +20,23 @@ pub enum Item {
 /// The items of a thread that have not reached memory, oldest first.
 #[derive(Drop)]
 pub struct Buffer {
-    items: Vec<Item>,
+    /// The items, behind some that were taken off: at most half of the list.
+    list: Vec<Item>,
+    /// How many were taken off.
+    head: usize,
 }
 
 impl Model for Buffer {
-    ghost use Rattle.std.specs.Prelude.{◌-◌};
+    ghost use Rattle.std.specs.Prelude.{◌-◌, drop};
     ghost use Rattle.std.specs.Vec.{vec_len, vec_capacity};
-    ghost use Rattle.tso_memory.specs.Buffer.{BufferMeaning, AreSoundItems};
+    ghost use Rattle.tso_memory.specs.Buffer.{BufferMeaning};
+    ghost use Rattle.tso_memory.specs.Kept.{IsQueue};
 
     ghost Value = { BufferMeaning };
 
-    ghost view = { λ b. record { items = b.items.items; spare = vec_capacity b.items - vec_len b.items } };
+    ghost view = { λ b. record { items = drop b.head b.list.items; spare = vec_capacity b.list - vec_len b.list } };
 
-    ghost invariant = { λ b. AreSoundItems b.items.items };
+    ghost invariant = { λ b. IsQueue b.list.items b.head };
 }
 
 impl Buffer {
@@ -41,7 +45,8 @@ impl Buffer {
         ensures { result.items ≡ [] }
     {
         Buffer {
-            items: Vec::new(alloc),
+            list: Vec::new(alloc),
+            head: 0,
         }
     }
 
@@ -50,7 +55,7 @@ impl Buffer {
         ensures list { result.now ≡ self.now.items }
         ensures sound { AreSoundItems self.now.items }
     {
-        self.items.as_slice()
+        &self.list[self.head..]
     }
 
     /// Adds an item behind the others.
@@ -60,21 +65,28 @@ impl Buffer {
         ensures err { OnErr result (self.new.items ≡ self.old.items) }
         ensures room { 1 ≤ self.old.spare → IsOk result }
     {
-        match self.items.push(item) {
+        match self.list.push(item) {
             Ok(()) => Ok(()),
             Err(e) => Err(AllocError::from(e).into()),
         }
     }
 
-    /// Takes the oldest item off. It costs the length of the buffer.
+    /// Takes the oldest item off, in constant time over all calls: those in front of the oldest are
+    /// cut off once they are more than half of the list.
     pub fn pop(&mut self) -> Option<Item>
         ensures oldest { MatchOption result ((self.old.items ≡ []) × (self.new.items ≡ [])) (λ item. self.old.items ≡ item ∷ self.new.items) }
         ensures sound { IfSome result IsSoundItem }
     {
-        if self.items.is_empty() {
+        if self.head == self.list.len() {
             return None;
         }
-        Some(self.items.remove(0))
+        let item = self.list[self.head];
+        self.head += 1;
+        if self.head > self.list.len() / 2 {
+            self.list.drain(..self.head);
+            self.head = 0;
+        }
+        Some(item)
     }
 
     /// Sees to it that one more item needs no memory.
@@ -82,7 +94,7 @@ impl Buffer {
         ensures same { self.new.items ≡ self.old.items }
         ensures spare { OnOk result (1 ≤ self.new.spare) }
     {
-        self.items.reserve(1)?;
+        self.list.reserve(1)?;
         Ok(())
     }
 }

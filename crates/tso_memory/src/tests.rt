@@ -1,5 +1,6 @@
 //! Worked examples, with values by hand.
-ghost use Rattle.std.specs.Prelude.{IsTrue};
+ghost use Rattle.std.specs.Prelude.{◌≡◌, ◌==◌, IsTrue, true};
+ghost use Rattle.std.specs.List.{list_any};
 ghost use Rattle.tso_memory.specs.Buffer.{IsSoundItem};
 
 use crate::*;
@@ -53,6 +54,23 @@ fn place(base: u32, size: u32) -> Item {
 
 fn lift(base: u32, size: u32) -> Item {
     Item::Lift { base, size }
+}
+
+/// Whether a live object has this base.
+fn is_base(m: &Memory, base: u32) -> bool
+    ensures { IsTrue result → list_any (λ o. o.base == base) m.now.objects ≡ true }
+{
+    m.objects().iter().any(|o| o.base == base)
+}
+
+/// Whether the buffer gives these items first, in this order.
+fn pops_are(b: &mut Buffer, items: &[Item]) -> bool {
+    for item in items {
+        if b.pop() != Some(*item) {
+            return false;
+        }
+    }
+    true
 }
 
 /// Whether each load answers as its row says.
@@ -121,6 +139,11 @@ static GLOBAL_LOADS: [(Chunk, u32, Option<Val>); 6] = [
     (Chunk::I8u, 0x4000_0010, None),
 ];
 
+static LOADS_WITHOUT_THE_BLOCK: [(Chunk, u32, Option<Val>); 2] = [
+    (Chunk::I8u, 0x4000_000F, None),
+    (Chunk::I32, 0x2100_0000, Some(Val::Word(0))),
+];
+
 static PLACES: [(usize, u32, u32, u32, bool); 11] = [
     (0, 0x9000_0000, 4, 4, true),
     (1, 0x9000_0000, 4, 4, false),
@@ -161,6 +184,28 @@ fn globals_and_a_block(rt: HostRuntime) -> Result<(), Fail> {
         })?;
     }
     assert!(rt; loads_are(&m, &GLOBAL_LOADS));
+    if is_base(&m, 0x4000_0000) {
+        m.remove(0x4000_0000);
+    }
+    assert!(rt; loads_are(&m, &LOADS_WITHOUT_THE_BLOCK));
+    Ok(())
+}
+
+/// The list of the items is cut at the third pop.
+#[test]
+fn the_oldest_item_comes_first(rt: HostRuntime) -> Result<(), Fail> {
+    let x = 0x9000_0000;
+    let items = [
+        place(x, 4),
+        put(Chunk::I32, x, 1),
+        put(Chunk::I32, x, 2),
+        lift(x, 4),
+    ];
+    let mut b = buffer_of(rt.alloc(), &items)?;
+    assert!(rt; pops_are(&mut b, &items[..3]));
+    b.push(Item::Lift { base: 8, size: 1 })?;
+    assert!(rt; pops_are(&mut b, &[lift(x, 4), lift(8, 1)]));
+    assert!(rt; b.pop().is_none());
     Ok(())
 }
 

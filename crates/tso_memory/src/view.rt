@@ -1,10 +1,10 @@
 //! What a thread sees of memory: its loads read behind the items of its own buffer.
-ghost use Rattle.std.specs.Prelude.{◌≡◌, ℕ, ◌+◌, ◌≤◌, Some, None, MatchResult, length, take};
-ghost use Rattle.std.specs.List.{find, list_any};
+ghost use Rattle.std.specs.Prelude.{◌≡◌, ℕ, ◌+◌, ◌≤◌, Some, None, MatchResult, true, length, take};
+ghost use Rattle.std.specs.List.{find, list_any, list_all};
 ghost use Rattle.tso_memory.specs.Memory.{is_right, holds};
 ghost use Rattle.tso_memory.specs.Buffer.{view, loaded, AreSoundItems, IsSoundItem};
 ghost use Rattle.tso_memory.specs.Kept.{memory_of, kept_at};
-ghost use Rattle.tso_memory.specs.Through.{holder_after, holder_through, cell_after, cell_through, objects_after, is_right_item, all_right};
+ghost use Rattle.tso_memory.specs.Through.{holder_after, holder_through, cell_after, cell_through, objects_after, is_right_item, is_store, all_right};
 
 use crate::buffer::{Buffer, Item};
 use crate::memory::{Memory, WrongAccess};
@@ -96,8 +96,38 @@ fn is_right_item(m: &Memory, front: &[Item], item: &Item) -> bool
     }
 }
 
-/// Whether each store among the items is right in its turn.
-fn are_right(m: &Memory, items: &[Item]) -> bool
+/// Whether an item is a store.
+fn is_store(item: &Item) -> bool
+    ensures { result ≡ is_store item.now }
+{
+    match *item {
+        Item::Put { .. } => true,
+        Item::Place { .. } | Item::Lift { .. } => false,
+    }
+}
+
+/// How many stores stand in front of the first item that begins or ends an object.
+fn count_front_stores(items: &[Item]) -> usize
+    ensures bound { result ≤ length items.now }
+    ensures stores { list_all is_store (take result items.now) ≡ true }
+{
+    for k in 0..items.len() {
+        if !is_store(&items[k]) {
+            return k;
+        }
+    }
+    items.len()
+}
+
+/// Whether each item is no store, or one that is right among the live objects.
+fn are_right_now(m: &Memory, items: &[Item]) -> bool
+    ensures { result ≡ list_all (is_right_item m.now.objects) items.now }
+{
+    items.iter().all(|item| is_right_item(m, &[], item))
+}
+
+/// Whether each store among the items is right in its turn, by a walk over all in front of it.
+fn are_right_in_turn(m: &Memory, items: &[Item]) -> bool
     requires { AreSoundItems items.now }
     ensures { result ≡ all_right m.now.objects items.now }
 {
@@ -107,6 +137,16 @@ fn are_right(m: &Memory, items: &[Item]) -> bool
         }
     }
     true
+}
+
+/// Whether each store among the items is right in its turn. Those in front of the first Place or
+/// Lift are tried among the live objects.
+fn are_right(m: &Memory, items: &[Item]) -> bool
+    requires { AreSoundItems items.now }
+    ensures { result ≡ all_right m.now.objects items.now }
+{
+    let (stores, rest) = items.split_at(count_front_stores(items));
+    are_right_now(m, stores) && are_right_in_turn(m, rest)
 }
 
 /// The cell at an address in the view behind these items, where it is live there.
@@ -124,8 +164,9 @@ fn cell_behind(m: &Memory, items: &[Item], x: u32) -> Cell
 /// is refused where a store among the items is not right in its turn, or the access is not right
 /// there.
 ///
-/// It costs a search among the objects for each store in the buffer, and a walk over the items in
-/// front of that store.
+/// It costs a few walks over the buffer, a search among the objects for each store in it, and for
+/// each store behind the first Place or Lift a walk from there up to the store: with stores alone
+/// the length of the buffer times the search, and at worst its square.
 pub fn view_load(m: &Memory, b: &Buffer, chunk: Chunk, addr: Val) -> Result<Val, WrongAccess>
     ensures { MatchResult result (λ v. loaded (view (memory_of m.now) b.now.items) chunk addr ≡ Some v) (λ _. loaded (view (memory_of m.now) b.now.items) chunk addr ≡ None) }
 {

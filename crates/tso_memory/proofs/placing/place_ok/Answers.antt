@@ -1,6 +1,5 @@
-use Rattle.std.proofs.Common.{sym, ap, ◌∙◌, ◌≡◌, map, true, false}
-use Rattle.tso_memory.specs.Buffer.{objects_lifted}
-use Rattle.tso_memory.proofs.Items.{allowed_unfit, allowed_fit}
+use Rattle.std.proofs.Common.{sym, ◌∙◌, map}
+use Rattle.tso_memory.proofs.Items.{allowed_unfit}
 use Rattle.tso_memory.proofs.placing.place_ok.Goals as goal
 
 pub returns-then-not-is_fit : goal.returns-then-not-is_fit
