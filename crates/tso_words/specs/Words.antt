@@ -7,6 +7,15 @@ use Rattle.tso_words.specs.declared.value.Cell.TheVariants.{Blank, Byte}
 use Rattle.tso_words.specs.declared.value.Chunk.{Chunk}
 use Rattle.tso_words.specs.declared.value.Chunk.TheVariants.{I8s, I8u, I16s, I16u, I32}
 
+-- what the code holds: a word has 32 bits, a byte 8
+abbrev pub IsValue : Val → Type 0
+IsValue Undef = Unit {0}
+IsValue (Word w) = w < 2 ^ 32
+
+abbrev pub IsCell : Cell → Type 0
+IsCell Blank = Unit {0}
+IsCell (Byte b) = b < 2 ^ 8
+
 -- the size of a chunk in bytes
 abbrev pub chunk_size : Chunk → ℕ
 chunk_size I8s = 1
@@ -28,20 +37,22 @@ bytes_from v i (suc n) = byte_of v i ∷ bytes_from v (suc i) n
 abbrev pub bytes_of : Chunk → Val → List Cell
 bytes_of c v = bytes_from v 0 (chunk_size c)
 
--- the number that cells write, little-endian; Undef where one is blank
+-- a byte below a number that is written in the bytes above it
 abbrev pub with_byte : ℕ → Val → Val
 with_byte b Undef = Undef
 with_byte b (Word w) = Word (b + 256 * w)
 
+-- the number that cells write, little-endian; Undef where one is blank
 abbrev pub number_of : List Cell → Val
 number_of [] = Word 0
 number_of (Blank ∷ cs) = Undef
 number_of (Byte b ∷ cs) = with_byte b (number_of cs)
 
--- the low half of the words stays; the others are extended by their sign
+-- a number of so many bits as a word: the lower half stays, and the upper half is extended by its sign bit
 abbrev pub extend_sign : ℕ → ℕ → ℕ
 extend_sign bits w = if nat_lt w (2 ^ (bits - 1)) then w else w + (2 ^ 32 - 2 ^ bits)
 
+-- the word of a chunk's number, and of one that may not be known
 abbrev pub extended : Chunk → ℕ → ℕ
 extended I8s w = extend_sign 8 w
 extended I8u w = w
