@@ -1,5 +1,5 @@
 -- The strings that are words of C: identifiers, keywords, constants and punctuators (ISO C99 6.4.1 to 6.4.6, a profile: no floating constants, no string literals, no universal names, no multi-character constants). Sets of strings here; the code scans byte by byte.
-use Rattle.std.specs.Prelude.{◌≡◌, ◌≢◌, ◌⊎◌, ℕ, ◌+◌, ◌-◌, ◌*◌, ◌<◌, ◌≤◌, Bool, true, false, List, [], ◌∷◌, ◌++◌, length, codes, ◌&&◌, ◌||◌, nat_le, ◌==◌, if◌then◌else◌, IsTrue}
+use Rattle.std.specs.Prelude.{◌≡◌, ◌≢◌, ◌⊎◌, ℕ, ◌+◌, ◌-◌, ◌*◌, ◌≤◌, Bool, List, [], ◌∷◌, ◌++◌, length, codes, ◌&&◌, ◌||◌, nat_le, ◌==◌, if◌then◌else◌, IsTrue}
 use Rattle.c_tokens.specs.declared.token.TokenKind.{TokenKind}
 use Rattle.c_tokens.specs.declared.token.TokenKind.TheVariants.{Identifier, Keyword, Integer, Character, Punctuator}
 

@@ -1,9 +1,9 @@
 -- The tokens of a file (ISO C99 6.4, 6.4.9, a profile): the longest matches in order, with blanks, comments and line markers between them, up to the first place that begins no token. A relation between whole lists of bytes and tokens; the code goes from byte to byte.
-use Rattle.std.specs.Prelude.{◌≡◌, ◌≢◌, ◌⊎◌, ℕ, ◌+◌, ◌-◌, ◌*◌, ◌^◌, ◌<◌, ◌≤◌, Bool, true, false, List, [], ◌∷◌, ◌++◌, length, Option, Some, None, IsTrue, ◌||◌, ◌==◌, ◌&&◌}
+use Rattle.std.specs.Prelude.{◌≡◌, ◌≢◌, ℕ, ◌-◌, ◌^◌, ◌<◌, ◌≤◌, Bool, true, false, List, [], ◌∷◌, ◌++◌, length, Option, Some, None, IsTrue, ◌||◌, ◌==◌}
 use Rattle.c_tokens.specs.declared.token.TokenKind.{TokenKind}
 use Rattle.c_tokens.specs.declared.token.TokenKind.TheVariants.{Identifier, Keyword, Integer, Character, Punctuator}
 use Rattle.c_tokens.specs.declared.token.Token.{Token}
-use Rattle.c_tokens.specs.Lexemes.{AllOf, Bytes, is_between, is_decimal, is_letter_or_digit, IsLexeme, IsNumeral, IsCharacterOf, IsAmong, suffixes}
+use Rattle.c_tokens.specs.Lexemes.{AllOf, Bytes, is_decimal, is_letter_or_digit, IsLexeme, IsNumeral, IsCharacterOf, IsAmong, suffixes}
 
 -- a blank that ends no line: space, tab, carriage return, form feed or vertical tab
 abbrev pub is_space : Bytes
