@@ -98,7 +98,7 @@ marker_sound bytes after e =
     let last : behind in_line (behind is_space bytes) ≡ after = let k = h.1 in cc in
     marked_of r.run r.all (behind is_space bytes) after bytes r.whole h.0 last
 
-marker_exact : (spaces : List ℕ) (digit : ℕ) (text rest : List ℕ) → AllOf is_space spaces → is_decimal digit ≡ true → IsInLine text → IsLineEnd rest → behind_marker ((spaces ++ digit ∷ text) ++ rest) ≡ Some rest
+pub marker_exact : (spaces : List ℕ) (digit : ℕ) (text rest : List ℕ) → AllOf is_space spaces → is_decimal digit ≡ true → IsInLine text → IsLineEnd rest → behind_marker ((spaces ++ digit ∷ text) ++ rest) ≡ Some rest
 marker_exact spaces digit text rest are first line ends =
     let tail = digit ∷ (text ++ rest) in
     let skip : behind is_space ((spaces ++ digit ∷ text) ++ rest) ≡ tail = ap (behind is_space) (append_assoc spaces (digit ∷ text) rest) ∙ behind_exact is_space spaces tail are (digit_no_space digit first) in
@@ -163,7 +163,7 @@ mark_cases true b bs after true is e = subst (λ (x : ℕ). Goes true false (x �
 mark_cases false b bs after true is e = absurd (cc)
 mark_cases fresh b bs after false is e = absurd (cc)
 
-abbrev marked : Bool → ℕ → List ℕ → Option (List ℕ)
+abbrev pub marked : Bool → ℕ → List ℕ → Option (List ℕ)
 marked fresh b bs = cond (b == 35 && fresh) (behind_marker bs) None
 
 slash_cases : (fresh : Bool) (b : ℕ) (bs after : List ℕ) (t : Bool) → (b == 47) ≡ t → cond t (behind_slash bs) (marked fresh b bs) ≡ Some after → Goes fresh false (b ∷ bs) after

@@ -7,3 +7,4 @@ pub mod Constants
 pub mod Sound
 pub mod Told
 pub mod Progress
+pub mod Unique

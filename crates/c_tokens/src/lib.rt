@@ -9,6 +9,7 @@ mod class;
 mod gap;
 mod lexeme;
 mod list;
+pub mod laws;
 pub mod token;
 mod value;
 
