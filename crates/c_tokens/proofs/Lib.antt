@@ -8,3 +8,4 @@ pub mod Sound
 pub mod Told
 pub mod Progress
 pub mod Unique
+pub mod Order

@@ -17,12 +17,12 @@ Rest fresh here end = (now : Bool) (other : List ℕ) → Gap fresh here now oth
 step_unique : (fresh : Bool) (here after : List ℕ) (now : Bool) (end : List ℕ) → Gap fresh here now end → behind_piece fresh here ≡ Some after → Rest (stays_fresh fresh here) after end → Rest fresh here end
 step_unique fresh here after now end g first more n other h past =
     elim (gap_goes fresh here n other h) [
-      inl same ↦
-        let moved : Gap n other now end = subst (λ (f : Bool). Gap f other now end) (sym same.1) (subst (λ (xs : List ℕ). Gap fresh xs now end) (sym same.0) g) in
-        past now end moved
-    | inr on ↦
-        let same : on.0 ≡ after = let k : Some on.0 ≡ Some after = sym on.1 ∙ first in cc in
-        more n other (subst (λ (xs : List ℕ). Gap (stays_fresh fresh here) xs n other) same on.2) past
+      | inl same ↦
+          let moved : Gap n other now end = subst (λ (f : Bool). Gap f other now end) (sym same.1) (subst (λ (xs : List ℕ). Gap fresh xs now end) (sym same.0) g) in
+          past now end moved
+      | inr on ↦
+          let same : on.0 ≡ after = let k : Some on.0 ≡ Some after = sym on.1 ∙ first in cc in
+          more n other (subst (λ (xs : List ℕ). Gap (stays_fresh fresh here) xs n other) same on.2) past
     ]
 
 abbrev Kept : Bool → List ℕ → Bool → List ℕ → Type 0

@@ -71,3 +71,8 @@ pub data TokensFrom (size : ℕ) : Bool → List ℕ → List Token → Option �
 -- the tokens of a file
 abbrev pub Tokens : List ℕ → List Token → Option ℕ → Type 0
 Tokens bytes = TokensFrom (length bytes) true bytes
+
+-- the tokens lie behind this place of a file of so many bytes, in order
+abbrev pub AreInOrder : ℕ → ℕ → List Token → Type 0
+AreInOrder size place [] = Unit {0}
+AreInOrder size place (t ∷ ts) = (place ≤ t.from) × (t.from < t.to) × (t.to ≤ size) × AreInOrder size t.to ts

@@ -7,9 +7,9 @@
 
 mod class;
 mod gap;
+pub mod laws;
 mod lexeme;
 mod list;
-pub mod laws;
 pub mod token;
 mod value;
 

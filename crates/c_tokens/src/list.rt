@@ -1,7 +1,7 @@
 //! The tokens of a file.
-ghost use Rattle.std.specs.Prelude.{◌≡◌, ◌≤◌, length, IfOk, MatchOption};
+ghost use Rattle.std.specs.Prelude.{◌≡◌, ◌≤◌, length, ◌<◌, IfOk, IfSome, MatchOption};
 ghost use Rattle.c_tokens.specs.Scanning.{HasNoToken, IsTokenAt};
-ghost use Rattle.c_tokens.specs.Tokens.{Tokens};
+ghost use Rattle.c_tokens.specs.Tokens.{AreInOrder, Tokens};
 
 use crate::gap::behind_gap;
 use crate::lexeme::{behind_lexeme, is_token, kind_of};
@@ -41,7 +41,9 @@ fn token_at(size: usize, here: &[u8]) -> Option<(Token, &[u8])>
 /// between them. `NoMemory` where the list cannot grow.
 pub fn tokens(alloc: Global, bytes: &[u8]) -> Result<TokenList, NoMemory>
     requires { length bytes.now ≤ 4194304 }
-    ensures { IfOk result (λ tokens. Tokens bytes.now tokens.list.items tokens.bad) }
+    ensures exact { IfOk result (λ tokens. Tokens bytes.now tokens.list.items tokens.bad) }
+    ensures in_order { IfOk result (λ tokens. AreInOrder (length bytes.now) 0 tokens.list.items) }
+    ensures bad_within { IfOk result (λ tokens. IfSome tokens.bad (λ place. place < length bytes.now)) }
 {
     let size = bytes.len();
     let mut list = Vec::new(alloc);
