@@ -1,12 +1,12 @@
 -- A file has one list of tokens: the longest gap is one only, and so is the longest lexeme.
-use Rattle.std.proofs.Common.{◌≡◌, ◌≢◌, ◌⊎◌, ℕ, ◌-◌, List, [], ◌∷◌, ◌++◌, length, refl, sym, ◌∙◌, ap, subst, Option, Some, None, Bool, true, false, cond, inl, inr}
+use Rattle.std.proofs.Common.{◌≡◌, ℕ, ◌-◌, List, [], ◌∷◌, ◌++◌, length, refl, sym, ◌∙◌, ap, subst, Option, Some, None, Bool, true, false, cond, inl, inr}
 use Rattle.std.specs.Prelude.{◌==◌}
 use Rattle.c_tokens.specs.declared.token.TokenKind.{TokenKind}
 use Rattle.c_tokens.specs.declared.token.Token.{Token}
-use Rattle.c_tokens.specs.Tokens.{Gap, NoMore, Space, LineFeed, LineComment, BlockComment, LineMarker, IsPast, is_space, IsLongest, IsToken, TokensFrom, AtEnd, AtToken, AtBad, Tokens}
+use Rattle.c_tokens.specs.Tokens.{Gap, NoMore, Space, LineFeed, LineComment, BlockComment, LineMarker, IsPast, IsLongest, IsToken, TokensFrom, AtEnd, AtToken, AtBad, Tokens}
 use Rattle.c_tokens.specs.Scanning.{behind_piece, behind_slash, stays_fresh, behind_lexeme}
 use Rattle.c_tokens.proofs.Runs.{in_line, line_all, line_end, behind_exact}
-use Rattle.c_tokens.proofs.Gaps.{GoesOn, gap_goes, piece_past, comment_exact, marker_exact, marked}
+use Rattle.c_tokens.proofs.Gaps.{gap_goes, piece_past, comment_exact, marker_exact, marked}
 use Rattle.c_tokens.proofs.Constants.{complete}
 use Rattle.c_tokens.proofs.Told.{one_longest}
 
