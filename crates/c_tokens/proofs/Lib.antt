@@ -1,0 +1,11 @@
+pub mod Runs
+pub mod Gaps
+pub mod Numbers
+pub mod Tables
+pub mod Complete
+pub mod Constants
+pub mod Sound
+pub mod Told
+pub mod Progress
+pub mod Unique
+pub mod Order
