@@ -7,7 +7,12 @@
 #![tactic(auto)]
 
 mod asm;
+pub mod instruction;
 mod machine;
+pub mod mnemonic;
+pub mod operand;
+pub mod register;
+pub mod table;
 #[cfg(test)]
 mod tests;
 mod traced;
