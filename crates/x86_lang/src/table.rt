@@ -1,6 +1,7 @@
 //! The instruction table: each form of an instruction with its mnemonic and the shapes of its
 //! operands, after GNU as for the System V i386 ABI. Printing, reading and stepping go by it.
-ghost use Rattle.std.specs.Prelude.{◌≡◌, position};
+ghost use Rattle.std.specs.Prelude.{◌≡◌, ◌+◌, ℕ, Some, position, slice_get};
+ghost use Rattle.x86_lang.specs.declared.table.Form.{Form};
 ghost use Rattle.x86_lang.specs.Table.{takes, takes_pattern, is_form_of, FitsAtMostOnce};
 
 use crate::mnemonic::Mnemonic;
@@ -169,4 +170,9 @@ pub const FORMS: [Form; 73] = [
 /// Of one mnemonic and the same operands there is at most one row.
 pub fn no_two_rows_fit()
     ensures { FitsAtMostOnce FORMS }
+{}
+
+/// The rows are numbered in their order, from 1.
+pub fn rows_are_numbered()
+    ensures { (i : ℕ) (form : Form) → slice_get FORMS i ≡ Some form → form.row ≡ i + 1 }
 {}
