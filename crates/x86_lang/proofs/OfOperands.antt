@@ -1,6 +1,6 @@
 -- Each instruction is that of its mnemonic and operands, and of no others: by cases.
-use Rattle.std.specs.Prelude.{◌≡◌, ℕ, List, Bool, true, false, ◌==◌, Option, Some, None, if◌then◌else◌, unwrap_or, refl}
-use Rattle.std.proofs.Common.{sym, ap, subst}
+use Rattle.std.specs.Prelude.{IfSome, IfNone, ◌≡◌, ℕ, List, Bool, true, false, ◌==◌, Option, Some, None, if◌then◌else◌, unwrap_or, refl}
+use Rattle.std.proofs.Common.{◌∙◌, sym, ap, subst}
 use Rattle.std.proofs.lemmas.Bool.{eqb-true}
 use Rattle.x86_lang.specs.declared.register.Register.{Register}
 use Rattle.x86_lang.specs.declared.register.ByteRegister.{ByteRegister}
@@ -24,7 +24,7 @@ use Rattle.x86_lang.specs.declared.instruction.Condition.TheVariants.{Equal, Not
 use Rattle.x86_lang.specs.Instruction.{mnemonic_of, operands_of, two, name_alone}
 use Rattle.x86_lang.specs.OfOperands.{instr_of, instr_at, on_parts, number_to_register, symbol_to_register, register_to_register, memory_to_register, register_to_memory, number_to_memory, byte_to_memory, half_to_memory, half_to_register, on_register, on_nothing, on_byte, through_register, cl_to_register, byte_to_register, on_name, on_memory}
 
-pub found : (i : Instr) → instr_of (mnemonic_of i) (operands_of i) ≡ Some i
+found : (i : Instr) → instr_of (mnemonic_of i) (operands_of i) ≡ Some i
 found (MoveNumber n r) = refl
 found (CombineNumber Add n r) = refl
 found (CombineNumber Subtract n r) = refl
@@ -259,5 +259,22 @@ instr_at_back m (Byte q) (Word r) i e = byte_to_register_back m q r i e
 instr_at_back m (Memory a) Absent i e = on_memory_back m a i e
 instr_at_back _ _ _ i e = absurd cc
 
-pub back : (m : Mnemonic) (o : Operands) (i : Instr) → instr_of m o ≡ Some i → (mnemonic_of i ≡ m) × (operands_of i ≡ o)
+back : (m : Mnemonic) (o : Operands) (i : Instr) → instr_of m o ≡ Some i → (mnemonic_of i ≡ m) × (operands_of i ≡ o)
 back m o i e = instr_at_back m o.first o.second i e
+
+pub has_both : (m : Mnemonic) (o : Operands) (r : Option Instr) → r ≡ instr_of m o → IfSome r (λ i. (mnemonic_of i ≡ m) × (operands_of i ≡ o))
+has_both m o None e = tt
+has_both m o (Some i) e = back m o i (sym e)
+
+found_at : (m : Mnemonic) (o : Operands) (i : Instr) → mnemonic_of i ≡ m → operands_of i ≡ o → instr_of m o ≡ Some i
+found_at m o i h k =
+    let P : Mnemonic → Type 0 = λ x. instr_of x (operands_of i) ≡ Some i in
+    let Q : Operands → Type 0 = λ x. instr_of m x ≡ Some i in
+    subst Q k (subst P h (found i))
+
+pub none_has : (m : Mnemonic) (o : Operands) (r : Option Instr) → r ≡ instr_of m o → IfNone r ((i : Instr) → mnemonic_of i ≡ m → operands_of i ≡ o → ⊥)
+none_has m o None e = λ i h k. let both : None ≡ Some i = e ∙ found_at m o i h k in absurd cc
+none_has m o (Some i) e = tt
+
+pub determine : (i j : Instr) → mnemonic_of i ≡ mnemonic_of j → operands_of i ≡ operands_of j → i ≡ j
+determine i j h k = ap (λ o. unwrap_or o i) (sym (found_at (mnemonic_of j) (operands_of j) i h k) ∙ found j)

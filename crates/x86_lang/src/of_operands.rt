@@ -1,6 +1,6 @@
 //! The instruction of a mnemonic and its operands, as reading needs it: the other way round of
-//! `Instr::mnemonic` and `operands_of`.
-ghost use Rattle.std.specs.Prelude.{◌≡◌, Some};
+//! `operands_of` and of `form_of`, whose row has the mnemonic.
+ghost use Rattle.std.specs.Prelude.{◌≡◌, IfSome, IfNone};
 ghost use Rattle.x86_lang.specs.Instruction.{mnemonic_of, operands_of as operands_in};
 ghost use Rattle.x86_lang.specs.OfOperands.{instr_of as instr_in, number_to_register as number_to_register_in, symbol_to_register as symbol_to_register_in, register_to_register as register_to_register_in, memory_to_register as memory_to_register_in, register_to_memory as register_to_memory_in, number_to_memory as number_to_memory_in, byte_to_memory as byte_to_memory_in, half_to_memory as half_to_memory_in, half_to_register as half_to_register_in, on_register as on_register_in, on_nothing as on_nothing_in, on_byte as on_byte_in, through_register as through_register_in, cl_to_register as cl_to_register_in, byte_to_register as byte_to_register_in, on_name as on_name_in, on_memory as on_memory_in};
 
@@ -12,6 +12,14 @@ use tso_words::Name;
 
 /// The instruction that has this mnemonic and these operands; None where there is none.
 pub fn instr_of(mnemonic: Mnemonic, operands: Operands) -> Option<Instr>
+    ensures has { IfSome result (λ i. (mnemonic_of i ≡ mnemonic) × (operands_in i ≡ operands)) }
+    ensures none { IfNone result ((i : Instr) → mnemonic_of i ≡ mnemonic → operands_in i ≡ operands → ⊥) }
+{
+    chosen(mnemonic, operands)
+}
+
+// The same, by the kinds of the two operands.
+fn chosen(mnemonic: Mnemonic, operands: Operands) -> Option<Instr>
     ensures { result ≡ instr_in mnemonic operands }
 {
     let Operands { first, second } = operands;
@@ -445,8 +453,7 @@ fn on_name(mnemonic: Mnemonic, name: Name) -> Option<Instr>
     }
 }
 
-/// Each instruction is that of its mnemonic and its operands, and of no others.
-pub fn instructions_are_found()
-    ensures found { (i : Instr) → instr_in (mnemonic_of i) (operands_in i) ≡ Some i }
-    ensures back { (m : Mnemonic) (o : Operands) (i : Instr) → instr_in m o ≡ Some i → (mnemonic_of i ≡ m) × (operands_in i ≡ o) }
+/// An instruction is determined by its mnemonic and its operands.
+pub fn mnemonic_and_operands_determine()
+    ensures { (i j : Instr) → mnemonic_of i ≡ mnemonic_of j → operands_in i ≡ operands_in j → i ≡ j }
 {}
