@@ -1,5 +1,6 @@
 -- The form of each instruction is the first that has its mnemonic and takes its operands: by cases, each computed over the table.
 use Rattle.std.specs.Prelude.{◌≡◌, ℕ, Bool, true, false, if◌then◌else◌, Some, position, refl}
+use Rattle.std.proofs.Common.{sym, subst}
 use Rattle.x86_lang.specs.declared.table.TheConstants.{FORMS}
 use Rattle.x86_lang.specs.declared.table.Shape.{Shape}
 use Rattle.x86_lang.specs.declared.table.Shape.TheVariants as shape
@@ -31,7 +32,7 @@ memory_second : (m : Mnemonic) (p : Shape) (n : ℕ) (b : Bool) → Finds m p sh
 memory_second m p n true h k = h
 memory_second m p n false h k = k
 
-pub forms_fit : (i : Instr) → position (is_form_of (text_of (mnemonic_of i)) (pattern_of (operands_of i))) FORMS ≡ Some (form_of i)
+forms_fit : (i : Instr) → position (is_form_of (text_of (mnemonic_of i)) (pattern_of (operands_of i))) FORMS ≡ Some (form_of i)
 forms_fit (MoveNumber n r) = refl
 forms_fit (MoveSymbol s r) = refl
 forms_fit (Move q r) = refl
@@ -144,3 +145,8 @@ forms_fit Fence = refl
 forms_fit (CompareExchange r a) = memory_second mnemonic.LockCmpxchgl shape.Word 70 (is_bare a) refl refl
 forms_fit (ExchangeAdd r a) = memory_second mnemonic.LockXaddl shape.Word 71 (is_bare a) refl refl
 forms_fit (Exchange r a) = memory_second mnemonic.Xchgl shape.Word 72 (is_bare a) refl refl
+
+pub form_is_found : (i : Instr) (n : ℕ) → n ≡ form_of i → position (is_form_of (text_of (mnemonic_of i)) (pattern_of (operands_of i))) FORMS ≡ Some n
+form_is_found i n e =
+    let P : ℕ → Type 0 = λ k. position (is_form_of (text_of (mnemonic_of i)) (pattern_of (operands_of i))) FORMS ≡ Some k in
+    subst P (sym e) (forms_fit i)

@@ -304,8 +304,16 @@ impl Condition {
     }
 }
 
-/// The index in `FORMS` of the form of an instruction.
+/// The index in `FORMS` of the form of an instruction: the first that has its mnemonic and takes its
+/// operands.
 pub fn form_of(instr: &Instr) -> usize
+    ensures { position (is_form_of (text_of (mnemonic_of instr.now)) (pattern_of (operands_in instr.now))) FORMS ≡ Some result }
+{
+    place_of(instr)
+}
+
+// The same, by cases.
+fn place_of(instr: &Instr) -> usize
     ensures { result ≡ form_index instr.now }
 {
     match instr {
@@ -346,11 +354,6 @@ pub fn form_of(instr: &Instr) -> usize
         Instr::Exchange { .. } => 72,
     }
 }
-
-/// The form of an instruction has its mnemonic and takes its operands, and no form before it does.
-pub fn forms_fit()
-    ensures { (i : Instr) → position (is_form_of (text_of (mnemonic_of i)) (pattern_of (operands_in i))) FORMS ≡ Some (form_index i) }
-{}
 
 /// The operands of an instruction.
 pub fn operands_of(instr: Instr) -> Operands
