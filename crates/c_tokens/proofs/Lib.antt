@@ -9,3 +9,5 @@ pub mod Told
 pub mod Progress
 pub mod Unique
 pub mod Order
+pub mod Values
+pub mod Words

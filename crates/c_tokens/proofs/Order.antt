@@ -1,6 +1,6 @@
 -- The tokens of a file lie in it, in order.
-use Rattle.std.proofs.Common.{◌≡◌, ◌≢◌, ℕ, ◌-◌, ◌<◌, ◌≤◌, List, [], ◌∷◌, length, refl, sym, ◌∙◌, ap, subst, Option, Some, Bool, true, false, arith}
-use Rattle.std.specs.Prelude.{IfSome}
+use Rattle.std.proofs.Common.{◌≡◌, ◌≢◌, ℕ, zero, suc, ◌-◌, ◌<◌, ◌≤◌, List, [], ◌∷◌, length, refl, sym, ◌∙◌, ap, subst, Option, Some, Bool, true, false, arith}
+use Rattle.std.specs.Prelude.{IfSome, slice_index_or}
 use Rattle.c_tokens.specs.declared.token.TokenKind.{TokenKind}
 use Rattle.c_tokens.specs.declared.token.Token.{Token}
 use Rattle.c_tokens.specs.Tokens.{IsLongest, TokensFrom, AtEnd, AtToken, AtBad, Tokens, AreInOrder}
@@ -51,3 +51,9 @@ in_order bytes tokens bad t =
 
 pub bad_within : (bytes : List ℕ) (tokens : List Token) (bad : Option ℕ) → Tokens bytes tokens bad → IfSome bad (λ place. place < length bytes)
 bad_within bytes tokens bad t = bad_place (length bytes) true bytes tokens bad t (omega arith)
+
+-- each token lies in its file
+pub order_at : (size place : ℕ) (tokens : List Token) (k : ℕ) (d : Token) → AreInOrder size place tokens → k < length tokens → ((slice_index_or tokens k d).from < (slice_index_or tokens k d).to) × ((slice_index_or tokens k d).to ≤ size)
+order_at size place [] k d h lt = absurd (omega arith)
+order_at size place (t ∷ ts) zero d h lt = (h.1, h.2)
+order_at size place (t ∷ ts) (suc k) d h lt = order_at size t.to ts k d h.3 (omega arith)

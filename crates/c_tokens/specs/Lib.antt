@@ -1,3 +1,4 @@
 pub mod Lexemes
 pub mod Tokens
+pub mod Constants
 pub mod Scanning

@@ -171,6 +171,11 @@ abbrev pub character_number : List ℕ → ℕ
 character_number [] = 0
 character_number (b ∷ bs) = inside_number bs
 
+-- whether an integer constant is decimal: no 'x' and no octal digit stands behind a '0' in front
+abbrev pub is_decimal_word : List ℕ → Bool
+is_decimal_word [] = true
+is_decimal_word (b ∷ bs) = if b == 48 then not (begins (λ c. c == 120 || c == 88) bs || begins is_octal bs) else true
+
 -- whether the word is this one byte
 abbrev pub is_only : ℕ → List ℕ → Bool
 is_only byte [] = false

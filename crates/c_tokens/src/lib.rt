@@ -6,6 +6,7 @@
 #![tactic(auto)]
 
 mod class;
+mod constant;
 mod gap;
 pub mod laws;
 mod lexeme;
@@ -13,6 +14,7 @@ mod list;
 pub mod token;
 mod value;
 
+pub use constant::{IntegerConstant, character_constant, integer_constant};
 pub use list::{TokenList, tokens};
 pub use token::{Token, TokenKind};
 

@@ -1,5 +1,6 @@
 //! The tokens of a file.
-ghost use Rattle.std.specs.Prelude.{◌≡◌, ◌≤◌, length, ◌<◌, IfOk, IfSome, MatchOption};
+ghost use Rattle.std.specs.Prelude.{◌≡◌, ◌≤◌, length, ◌<◌, All, IfOk, IfSome, MatchOption};
+ghost use Rattle.c_tokens.specs.Constants.{IsWordOf};
 ghost use Rattle.c_tokens.specs.Scanning.{HasNoToken, IsTokenAt};
 ghost use Rattle.c_tokens.specs.Tokens.{AreInOrder, Tokens};
 
@@ -43,6 +44,7 @@ pub fn tokens(alloc: Global, bytes: &[u8]) -> Result<TokenList, NoMemory>
     requires { length bytes.now ≤ 4194304 }
     ensures exact { IfOk result (λ tokens. Tokens bytes.now tokens.list.items tokens.bad) }
     ensures in_order { IfOk result (λ tokens. AreInOrder (length bytes.now) 0 tokens.list.items) }
+    ensures words { IfOk result (λ tokens. All (IsWordOf bytes.now) tokens.list.items) }
     ensures bad_within { IfOk result (λ tokens. IfSome tokens.bad (λ place. place < length bytes.now)) }
 {
     let size = bytes.len();

@@ -1,7 +1,7 @@
 //! Small files and their tokens, worked by hand from the rules of the tokens.
 ghost use Rattle.std.specs.Prelude.{◌≤◌, length};
 
-use crate::{Token, TokenKind, tokens};
+use crate::{IntegerConstant, Token, TokenKind, character_constant, integer_constant, tokens};
 use std::alloc::Global;
 use std::process::Abort;
 use std::test::Fail;
@@ -202,4 +202,73 @@ fn gaps(rt: HostRuntime) -> Result<(), Fail> {
         (b"#\n1", 0),
     ];
     expect_bad(&rt, alloc, &bad)
+}
+
+// The integer constant at the front of a file.
+fn first_integer(rt: &impl Abort, alloc: Global, file: &[u8]) -> Result<IntegerConstant, Fail> {
+    assert!(rt; file.len() <= 100);
+    let got = tokens(alloc, file)?;
+    assert!(rt; got.list.len() > 0);
+    let token = got.list[0];
+    match token.kind {
+        TokenKind::Integer => Ok(integer_constant(&file[token.from as usize..token.to as usize])),
+        _ => panic!(rt; "no integer constant"),
+    }
+}
+
+// The number of the character constant at the front of a file.
+fn first_character(rt: &impl Abort, alloc: Global, file: &[u8]) -> Result<u8, Fail> {
+    assert!(rt; file.len() <= 100);
+    let got = tokens(alloc, file)?;
+    assert!(rt; got.list.len() > 0);
+    let token = got.list[0];
+    match token.kind {
+        TokenKind::Character => Ok(character_constant(
+            &file[token.from as usize..token.to as usize],
+        )),
+        _ => panic!(rt; "no character constant"),
+    }
+}
+
+#[test]
+fn integer_constants(rt: HostRuntime) -> Result<(), Fail> {
+    let rows: [(&[u8], u32, bool, bool); 9] = [
+        (b"0", 0, true, false),
+        (b"0u", 0, true, true),
+        (b"00", 0, false, false),
+        (b"0x0", 0, false, false),
+        (b"017L", 15, false, false),
+        (b"0XfFUl", 255, false, true),
+        (b"0xflu", 15, false, true),
+        (b"4294967295", 4_294_967_295, true, false),
+        (b"10lU", 10, true, true),
+    ];
+    for row in &rows {
+        let (file, value, is_decimal, is_unsigned) = *row;
+        let got = first_integer(&rt, rt.alloc(), file)?;
+        assert!(rt; got.value == value);
+        assert!(rt; got.is_decimal == is_decimal);
+        assert!(rt; got.is_unsigned == is_unsigned);
+    }
+    Ok(())
+}
+
+#[test]
+fn character_constants(rt: HostRuntime) -> Result<(), Fail> {
+    let rows: [(&[u8], u8); 8] = [
+        (b"' '", 32),
+        (b"'~'", 126),
+        (b"'\\n'", 10),
+        (b"'\\v'", 11),
+        (b"'\\''", 39),
+        (b"'\\0'", 0),
+        (b"'\\377'", 255),
+        (b"'\\x0aB'", 171),
+    ];
+    for row in &rows {
+        let (file, number) = *row;
+        let got = first_character(&rt, rt.alloc(), file)?;
+        assert!(rt; got == number);
+    }
+    Ok(())
 }

@@ -1,0 +1,4 @@
+pub mod Lists
+pub mod Placements
+pub mod Put
+pub mod WellMade

@@ -1,9 +1,13 @@
 //! ClightTSO as a thread language.
 
-ghost use Rattle.clight_lang.specs.declared.thread.Thread.{Thread};
-ghost use Rattle.clight_lang.specs.Meaning.{language, lawful};
+ghost use Rattle.clight_lang.specs.State.{State, state_of};
+ghost use Rattle.clight_lang.specs.Meaning.{language, program_of};
+ghost use Rattle.clight_lang.specs.Lawful.{lawful};
 
+use crate::leading::same;
+use crate::offering::{callee, thread_offer};
 use crate::program::Program;
+use crate::resuming::{resume_thread, thread_of};
 use crate::thread::Thread;
 use std::alloc::Global;
 use tso_core::language::ThreadLang;
@@ -19,57 +23,57 @@ impl ThreadLang for Clight {
 
     type Thread = Thread;
 
-    ghost State = { Thread };
+    ghost State = { State };
 
-    ghost state_of = { λ t. t };
+    ghost state_of = { state_of };
 
-    ghost language = { language };
+    ghost language = { λ p. language (program_of p) };
 
-    ghost lawful = { lawful };
+    ghost lawful = { λ p. lawful (program_of p) };
 
     #[tactic(auto, unfolding(crate::specs::Meaning::language))]
     fn globals(p: &Program) -> &Globals {
-        p.globals()
+        &p.globals
     }
 
     #[tactic(auto, unfolding(crate::specs::Meaning::language))]
-    fn first(_alloc: Global, _p: &Program, _at: &Placement) -> Result<Thread, NoMemory> {
-        Ok(Thread::Enter)
+    fn first(alloc: Global, p: &Program, _at: &Placement) -> Result<Thread, NoMemory> {
+        Ok(thread_of(alloc, true, same(&p.main)?, Vec::new(alloc)))
     }
 
     #[tactic(auto, unfolding(crate::specs::Meaning::language))]
     fn started(
-        _alloc: Global,
-        _p: &Program,
-        _at: &Placement,
-        _fun: Val,
-        _arg: Val,
+        alloc: Global,
+        p: &Program,
+        at: &Placement,
+        fun: Val,
+        arg: Val,
     ) -> Result<Option<Thread>, NoMemory> {
-        Ok(None)
+        let Some(thread_type) = p.thread_type else {
+            return Ok(None);
+        };
+        match callee(&p.functions, at, thread_type, fun) {
+            None => Ok(None),
+            Some(f) => {
+                let args = Vec::from_slice(alloc, &[arg])?;
+                Ok(Some(thread_of(alloc, false, same(f)?, args)))
+            }
+        }
     }
 
     #[tactic(auto, unfolding(crate::specs::Meaning::language))]
-    fn offer(_alloc: Global, _p: &Program, _at: &Placement, t: &Thread) -> Result<Offer, NoMemory> {
-        Ok(match *t {
-            Thread::Enter | Thread::Block | Thread::Return => Offer::Silent,
-            Thread::Leave(word) => Offer::Exit { word },
-        })
+    fn offer(alloc: Global, p: &Program, at: &Placement, t: &Thread) -> Result<Offer, NoMemory> {
+        thread_offer(alloc, &p.functions, at, t)
     }
 
     #[tactic(auto, unfolding(crate::specs::Meaning::language))]
     fn resume(
-        _alloc: Global,
+        alloc: Global,
         p: &Program,
-        _at: &Placement,
+        at: &Placement,
         t: &mut Thread,
-        _a: Answer,
+        a: Answer,
     ) -> Result<(), NoMemory> {
-        *t = match *t {
-            Thread::Enter => Thread::Block,
-            Thread::Block => Thread::Return,
-            Thread::Return => Thread::Leave(Val::Word(p.number())),
-            Thread::Leave(word) => Thread::Leave(word),
-        };
-        Ok(())
+        resume_thread(alloc, &p.functions, at, t, a)
     }
 }

@@ -2,6 +2,7 @@
 //! behind the other from the laws of refinement alone.
 #![tactic(auto)]
 
+pub mod meeting;
 pub mod pipeline;
 pub mod ties;
 

@@ -3,12 +3,13 @@ use Rattle.std.proofs.Common.{◌≡◌, ℕ, List, refl, arith}
 use Rattle.tso_core.specs.Theorem.{EveryRunMatched}
 use Rattle.tso_core.specs.Machine.{machine}
 use Rattle.clight_lang.specs.Meaning.{language}
-use Rattle.x86_lang.specs.Assembly.{labels}
-use Rattle.x86_lang.specs.X86Tso.{x86_system}
+use Rattle.clight_lang.specs.MainAlone.{returned}
+use Rattle.x86_first.specs.Assembly.{labels}
+use Rattle.x86_first.specs.X86Tso.{x86_system}
 use Rattle.tso_top.specs.Tokens.{TenTokens}
 use Rattle.tso_top.specs.Compiles.{Compiles, returning, text_of}
 
-pub compiles : (bytes text : List ℕ) (n : ℕ) → TenTokens bytes n → text ≡ text_of n → EveryRunMatched (machine (language n)) (x86_system (returning n)) 1 → Compiles bytes text
+pub compiles : (bytes text : List ℕ) (n : ℕ) → TenTokens bytes n → text ≡ text_of n → EveryRunMatched (machine (language (returned n))) (x86_system (returning n)) 1 → Compiles bytes text
 compiles bytes text n means is theorem = record {
   word = n;
   means = means;

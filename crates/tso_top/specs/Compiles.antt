@@ -4,10 +4,11 @@ use Rattle.tso_core.specs.declared.Step.{Step}
 use Rattle.tso_core.specs.Systems.{IsRun}
 use Rattle.tso_core.specs.Theorem.{MatchedRun}
 use Rattle.tso_core.specs.Machine.{machine}
-use Rattle.clight_lang.specs.Meaning.{language, main_nodes}
-use Rattle.x86_lang.specs.declared.asm.Instr.TheVariants.{MoveToEax, Return}
-use Rattle.x86_lang.specs.Assembly.{Assembly, labels}
-use Rattle.x86_lang.specs.X86Tso.{x86_system}
+use Rattle.clight_lang.specs.Meaning.{language}
+use Rattle.clight_lang.specs.MainAlone.{main_nodes, returned}
+use Rattle.x86_first.specs.declared.asm.Instr.TheVariants.{MoveToEax, Return}
+use Rattle.x86_first.specs.Assembly.{Assembly, labels}
+use Rattle.x86_first.specs.X86Tso.{x86_system}
 use Rattle.tso_top.specs.Statuses.{line}
 use Rattle.tso_top.specs.Tokens.{TenTokens}
 
@@ -41,9 +42,9 @@ pub record Compiles (bytes text : List ℕ) : Type 0 where
   pub asm : Assembly
   pub is_assembly : AsmOf text asm
   -- the addresses of its labels are a placement that the program may have
-  pub labels_proper : (machine (language word)).IsProper (labels asm)
+  pub labels_proper : (machine (language (returned word))).IsProper (labels asm)
   -- its pace is at least 1, and bounded by the size of the program's largest function
   pub some_pace : 1 ≤ asm.pace
   pub pace_bound : asm.pace ≤ 2 ^ 96 * (main_nodes + 1)
   -- every run of the assembly on the x86-TSO machine, from the addresses of its labels, is matched by pieces of a run of the program on the ClightTSO machine, one for each step, up to the first step that makes the program wrong: the same events, the same threads begun and ended, no write buffered where the assembly has none, the same heap blocks, the same end, within the pace; and want of heap or of stack has its cause in the program
-  pub follows : (steps : List Step) → IsRun (x86_system asm) ((x86_system asm).opening (labels asm)) steps → MatchedRun (machine (language word)) (x86_system asm) asm.pace (labels asm) steps
+  pub follows : (steps : List Step) → IsRun (x86_system asm) ((x86_system asm).opening (labels asm)) steps → MatchedRun (machine (language (returned word))) (x86_system asm) asm.pace (labels asm) steps

@@ -8,14 +8,16 @@ use Rattle.tso_core.specs.Matching.{Alike}
 use Rattle.tso_core.specs.Ties.{Answers, IsMachineTie}
 use Rattle.tso_core.specs.Runs.{IsCodePlace, IsProper}
 use Rattle.tso_core.specs.Machine.{MachineState, open_machine}
-use Rattle.clight_lang.specs.declared.thread.Thread.{Thread}
-use Rattle.clight_lang.specs.Meaning.{main, main_alone, open_language}
-use Rattle.x86_lang.specs.declared.machine.X86Now.TheVariants as now
-use Rattle.x86_lang.specs.Assembly.{Assembly, labels}
-use Rattle.x86_lang.specs.X86Tso.{x86_system}
-use Rattle.x86_lang.specs.X86Tso as x86
+use Rattle.clight_lang.specs.State.{State}
+use Rattle.clight_lang.specs.Rules.{main_name}
+use Rattle.clight_lang.specs.Meaning.{ProgramOf, open_language}
+use Rattle.clight_lang.specs.MainAlone.{main_alone, returned}
+use Rattle.x86_first.specs.declared.machine.X86Now.TheVariants as now
+use Rattle.x86_first.specs.Assembly.{Assembly, labels}
+use Rattle.x86_first.specs.X86Tso.{x86_system}
+use Rattle.x86_first.specs.X86Tso as x86
 use Rattle.tso_top.specs.Compiles.{returning}
-use Rattle.tso_top.specs.Returning.{Stage, Begun, Moved, Ended, source_at, target_at, Stands}
+use Rattle.tso_top.specs.Returning.{Stage, Begun, Moved, Ended, source_at, target_at, Stands, number_of}
 
 abbrev first_run : Step
 first_run = Run 0 None
@@ -68,12 +70,12 @@ zero_low = omega arith
 
 module _ (n : ℕ) where
   abbrev p : System
-  p = open_machine (open_language n)
+  p = open_machine (open_language (returned n))
 
   abbrev q : System
   q = x86_system (returning n)
 
-  abbrev R : MachineState Thread → x86.State → (ℕ → ℕ) → Type 0
+  abbrev R : MachineState State → x86.State → (ℕ → ℕ) → Type 0
   R s t f = Stands n s t f
 
   no_put : (at : Places) (k : Stage) (i : ℕ) → p.has_put (source_at n at k) i ≡ false
@@ -125,22 +127,22 @@ module _ (n : ℕ) where
 
   alike : (s : p.State) (t : q.State) (f : ℕ → ℕ) → Stands n s t f → Alike p q s t
   alike s t f r =
-      let S : MachineState Thread → Type 0 = λ a. Alike p q a t in
+      let S : MachineState State → Type 0 = λ a. Alike p q a t in
       let T : x86.State → Type 0 = λ b. Alike p q (source_at n r.at r.stage) b in
       subst S (sym r.in_source) (subst T (sym r.in_target) (alike_at r.at r.stage))
 
   answers : (s : p.State) (t : q.State) (f : ℕ → ℕ) → Stands n s t f → (x : Step) → IsSome (q.step t x) → Answers p q R s t f x
   answers s t f r =
-      let S : MachineState Thread → Type 0 = λ a. (x : Step) → IsSome (q.step t x) → Answers p q R a t f x in
+      let S : MachineState State → Type 0 = λ a. (x : Step) → IsSome (q.step t x) → Answers p q R a t f x in
       let T : x86.State → Type 0 = λ b. (x : Step) → IsSome (q.step b x) → Answers p q R (source_at n r.at r.stage) b f x in
       subst S (sym r.in_source) (subst T (sym r.in_target) (answers_at r.at r.stage f r.none_owed))
 
   -- main alone, at the first address
-  main_placed : (k : ℕ) (d : Names) → k < 1 → IsCodePlace (labels (returning n)) (slice_index_or (main ∷ []) k d)
+  main_placed : (k : ℕ) (d : Names) → k < 1 → IsCodePlace (labels (returning n)) (slice_index_or (main_name ∷ []) k d)
   main_placed zero d lt = (omega arith, omega arith)
   main_placed (suc k) d lt = absurd (omega arith)
 
-  is_main : (f : Names) (k : ℕ) → k < 1 → slice_index_or (main ∷ []) k f ≡ f → f ≡ main
+  is_main : (f : Names) (k : ℕ) → k < 1 → slice_index_or (main_name ∷ []) k f ≡ f → f ≡ main_name
   is_main f zero lt e = sym e
   is_main f (suc k) lt e = absurd (omega arith)
 
@@ -166,5 +168,19 @@ module _ (n : ℕ) where
         start_ready = λ s t f r e i h. absurd (never h);
       }
 
-pub returned_tied : (n : ℕ) (a : Assembly) → a ≡ returning n → IsMachineTie (open_machine (open_language n)) (x86_system a) (λ s t f. Stands n s t f) 1
-returned_tied n a e = subst (λ b. IsMachineTie (open_machine (open_language n)) (x86_system b) (λ s t f. Stands n s t f) 1) (sym e) (tied n)
+-- a program that returns n, and its two instructions
+pub record ReturnPair (p : ProgramOf) (a : Assembly) : Type 0 where
+  pub number : ℕ
+  pub program_is : p ≡ returned number
+  pub assembly_is : a ≡ returning number
+
+of_program : (n : ℕ) (p : ProgramOf) (a : Assembly) → p ≡ returned n → a ≡ returning n → IsMachineTie (open_machine (open_language p)) (x86_system a) (λ s t f. Stands n s t f) 1
+of_program n p a e g =
+    let S : ProgramOf → Type 0 = λ r. IsMachineTie (open_machine (open_language r)) (x86_system a) (λ s t f. Stands n s t f) 1 in
+    let T : Assembly → Type 0 = λ b. IsMachineTie (open_machine (open_language (returned n))) (x86_system b) (λ s t f. Stands n s t f) 1 in
+    subst S (sym e) (subst T (sym g) (tied n))
+
+pub returned_tied : (p : ProgramOf) (a : Assembly) → ReturnPair p a → IsMachineTie (open_machine (open_language p)) (x86_system a) (λ s t f. Stands (number_of p) s t f) 1
+returned_tied p a r =
+    let N : ℕ → Type 0 = λ n. IsMachineTie (open_machine (open_language p)) (x86_system a) (λ s t f. Stands n s t f) 1 in
+    subst N (sym (ap number_of r.program_is)) (of_program r.number p a r.program_is r.assembly_is)

@@ -1,4 +1,2 @@
-pub mod Apart
-pub mod FormsFit
-pub mod Numbered
-pub mod OfOperands
+pub mod Differ
+pub mod Ends

@@ -1,6 +1,7 @@
 use Rattle.std.proofs.Common.{◌≡◌, ◌<◌, ◌≤◌, ◌++◌, ◌∷◌, [], length, sym, arith}
 use Rattle.c_tokens.proofs.Gaps.{gap_shorter}
 use Rattle.c_tokens.proofs.Order.{in_order, bad_within}
+use Rattle.c_tokens.proofs.Words.{words_of}
 use Rattle.c_tokens.proofs.Progress.{start, step, ended, stopped, some_left}
 use Rattle.std.proofs.lemmas.Bool.{eqb-true}
 use Rattle.c_tokens.proofs.list.tokens.Goals as goal
@@ -13,7 +14,7 @@ returns-in_default c =
     let file = c.args.bytes.now in
     let list = c.loop-here.list.items in
     let whole = stopped c.args.bytes.now c.loop-here.list.items c.loop-here.here.now c.loop-here.invariant (some_left (length c.loop-here.here.now) c.loop-here-test.ensures) c.in_default.ensures in
-    record { exact = whole; in_order = in_order file list _ whole; bad_within = bad_within file list _ whole }
+    record { exact = whole; in_order = in_order file list _ whole; words = words_of file list _ whole; bad_within = bad_within file list _ whole }
 
 pub loop-here-smaller : goal.loop-here-smaller
 loop-here-smaller c =
@@ -32,4 +33,4 @@ returns c =
     let file = c.args.bytes.now in
     let list = c.loop-here.list.items in
     let whole = ended c.args.bytes.now c.loop-here.list.items c.loop-here.here.now c.loop-here.invariant (eqb-true (length c.loop-here.here.now) 0 (sym c.loop-here-test.ensures)) in
-    record { exact = whole; in_order = in_order file list _ whole; bad_within = bad_within file list _ whole }
+    record { exact = whole; in_order = in_order file list _ whole; words = words_of file list _ whole; bad_within = bad_within file list _ whole }

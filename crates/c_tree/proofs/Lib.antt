@@ -1,0 +1,5 @@
+pub mod Rows
+pub mod Shapes
+pub mod Declarators
+pub mod Puts
+pub mod Statements

@@ -1,0 +1,4 @@
+pub mod Defaults
+pub mod OneStep
+pub mod AsRuns
+pub mod TriedNames

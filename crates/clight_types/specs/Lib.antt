@@ -1,0 +1,10 @@
+pub mod Rules
+pub mod Judged
+pub mod Types
+pub mod Conversions
+pub mod Applied
+pub mod Constants
+pub mod Scopes
+pub mod Declarators
+pub mod Table
+pub mod BuiltOf

@@ -1,0 +1,10 @@
+pub mod Splits
+pub mod Numbers
+pub mod Fields
+pub mod Lines
+pub mod Told
+pub mod Progress
+pub mod Paths
+pub mod Sequences
+pub mod OneReading
+pub mod OneReplay

@@ -1,0 +1,35 @@
+//! Programs on their machines, with their names in one place.
+
+ghost use Rattle.std.specs.Prelude.{◌≡◌, ◌∷◌, [], IfOk};
+ghost use Rattle.toy_machines.specs.Placed.{x_placed};
+
+use crate::script::{Script, Scripts};
+use std::alloc::Global;
+use tso_core::placement::Placement;
+use tso_machine::Machine;
+use tso_words::{Name, NoMemory};
+
+/// One name at an address.
+fn one_name(alloc: Global, name: Name, addr: u32) -> Result<Placement, NoMemory>
+    ensures { IfOk result (λ at. at ≡ (name, addr) ∷ []) }
+{
+    let mut list = Vec::new(alloc);
+    match list.push((name, addr)) {
+        Ok(()) => Ok(Placement::made(list)),
+        Err(_) => Err(NoMemory),
+    }
+}
+
+/// The global of scripts at the first address of data.
+fn x_placed(alloc: Global) -> Result<Placement, NoMemory>
+    ensures { IfOk result (λ at. at ≡ x_placed) }
+{
+    let name = Name::made(alloc, b"x")?;
+    one_name(alloc, name, 0x2000_0000)
+}
+
+/// A script on its machine.
+pub fn script_machine(alloc: Global, script: &Script) -> Result<Machine<'_, Scripts>, NoMemory> {
+    let at = x_placed(alloc)?;
+    Machine::made(alloc, script, at)
+}

@@ -1,0 +1,9 @@
+pub mod Blocks
+pub mod Running
+pub mod Waits
+pub mod Chosen
+pub mod Least
+pub mod MapLists
+pub mod Skipped
+pub mod Openings
+pub mod Properly

@@ -1,0 +1,6 @@
+pub mod Answered
+pub mod Drained
+pub mod Grouped
+pub mod Grown
+pub mod Lagged
+pub mod Rightly

@@ -1,0 +1,3 @@
+pub mod Assembly
+pub mod MachineState
+pub mod X86Tso

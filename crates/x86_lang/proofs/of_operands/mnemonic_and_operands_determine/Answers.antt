@@ -1,6 +1,0 @@
--- Both are what their mnemonic and operands give.
-use Rattle.x86_lang.proofs.OfOperands.{determine}
-use Rattle.x86_lang.proofs.of_operands.mnemonic_and_operands_determine.Goals as goal
-
-pub returns : goal.returns
-returns c = determine

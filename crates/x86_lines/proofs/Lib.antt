@@ -1,0 +1,16 @@
+pub mod BitsRead
+pub mod Cuts
+pub mod FirstPiece
+pub mod Found
+pub mod Rendered
+pub mod RenderedInstr
+pub mod RenderedMemory
+pub mod Sizes
+pub mod NumberRead
+pub mod Registered
+pub mod BitsFound
+pub mod Marks
+pub mod TakenSound
+pub mod Chosen
+pub mod TakenWhole
+pub mod OneInstr

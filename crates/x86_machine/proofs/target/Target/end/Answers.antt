@@ -1,0 +1,10 @@
+use Rattle.std.proofs.Common.{refl, ap, arith, ◌<◌, length, true}
+use Rattle.x86_machine.specs.Kept.{state_of}
+use Rattle.x86_machine.specs.Target.{Thread}
+use Rattle.x86_machine.proofs.States.{changed}
+use Rattle.x86_machine.proofs.target.Target.end.Goals as goal
+
+pub returns : goal.returns
+returns c = λ t e.
+    let within : c.args.thread < length c.args.self.now.threads.items = omega (arith, c.args.self.now.threads.ok.0) in
+    changed (state_of c.args.self.now) c.args.self.now.threads.items c.args.thread c.index_mut.result.now _ t (record t { ended = true }) refl within c.index_mut.ensures.value e (λ q. ap (λ (u : Thread). record u { ended = true }) q)

@@ -1,0 +1,15 @@
+//! What the machine has come to.
+
+/// Whether the machine runs, or how it has ended.
+#[derive(Clone, Copy, Debug, PartialEq, Eq)]
+pub enum X86Now {
+    Running,
+    /// The program ended.
+    Exited,
+    /// A step had no meaning, as an access that is not right.
+    Fault,
+    /// A stack pointer left its stack, or no stack was there for a thread.
+    NoStack,
+    /// No block of the heap was there.
+    NoHeap,
+}

@@ -1,0 +1,4 @@
+pub mod Apart
+pub mod FormsFit
+pub mod Numbered
+pub mod OfOperands

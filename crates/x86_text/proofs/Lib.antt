@@ -1,0 +1,9 @@
+pub mod Assembled
+pub mod Feeds
+pub mod Joined
+pub mod Said
+pub mod OneSaying
+pub mod LineRead
+pub mod CutLine
+pub mod Formed
+pub mod OneBad

@@ -1,0 +1,9 @@
+use Rattle.std.proofs.Common.{◌≡◌, ◌+◌, length}
+use Rattle.x86_text.specs.Cutting.{line_len}
+use Rattle.x86_text.proofs.cutting.line_len.Given as goal
+
+abbrev pub invariant-loop-rest : goal.invariant-loop-rest
+invariant-loop-rest l = (l.count + line_len l.rest ≡ line_len l.bytes) × (l.count + length l.rest ≡ length l.bytes)
+
+abbrev pub decreases-loop-rest : goal.decreases-loop-rest
+decreases-loop-rest l = length l.rest
