@@ -6,11 +6,11 @@ use Rattle.c_tokens.specs.declared.token.Token.{Token}
 use Rattle.c_tokens.specs.Tokens.{Gap, NoMore, Space, LineFeed, LineComment, BlockComment, LineMarker, TokensFrom, AtEnd, AtToken, AtBad, Tokens}
 use Rattle.c_tokens.specs.Constants.{IsWord, IsWordOf}
 
-abbrev Parts : List ℕ → List ℕ → Type 0
+abbrev pub Parts : List ℕ → List ℕ → Type 0
 Parts rest end = (front : List ℕ) × (rest ≡ front ++ end)
 
 -- a gap is at the front of what is left
-gap_parts : (fresh : Bool) (rest : List ℕ) (now : Bool) (end : List ℕ) → Gap fresh rest now end → Parts rest end
+pub gap_parts : (fresh : Bool) (rest : List ℕ) (now : Bool) (end : List ℕ) → Gap fresh rest now end → Parts rest end
 gap_parts fresh rest now end (NoMore f r) = ([], refl)
 gap_parts fresh rest now end (Space f n b r e h g) = let p = gap_parts f r n e g in (b ∷ p.0, ap (λ xs. b ∷ xs) p.1)
 gap_parts fresh rest now end (LineFeed f n r e g) = let p = gap_parts true r n e g in (10 ∷ p.0, ap (λ xs. 10 ∷ xs) p.1)
@@ -25,7 +25,7 @@ gap_parts fresh rest now end (LineMarker n spaces digit text r e h d i j g) =
     (35 ∷ spaces ++ digit ∷ text ++ p.0, ap (λ xs. 35 ∷ spaces ++ digit ∷ text ++ xs) p.1 ∙ sym (append_assoc (35 ∷ spaces ++ digit ∷ text) p.0 e))
 
 -- the word in the middle of a file
-middle : (front word after : List ℕ) (size from to : ℕ) → size ≡ length (front ++ (word ++ after)) → from ≡ size - length (word ++ after) → to ≡ size - length after → slice_range (front ++ (word ++ after)) from to ≡ word
+pub middle : (front word after : List ℕ) (size from to : ℕ) → size ≡ length (front ++ (word ++ after)) → from ≡ size - length (word ++ after) → to ≡ size - length after → slice_range (front ++ (word ++ after)) from to ≡ word
 middle front word after size from to whole start end =
     let a = length-append front (word ++ after) in
     let b = length-append word after in

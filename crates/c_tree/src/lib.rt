@@ -22,6 +22,7 @@ pub use expr::{
 };
 pub use file::{Decl, External, File, FunctionDefinition, InitDeclarator, Initializer};
 pub use print::print_file;
+pub use print_expr::precedence;
 pub use stmt::{ForFirst, Group, Item, Label, Stmt};
 pub use word::{
     Access, AssignmentOperator, BinaryOperator, CompositeWord, Increment, Number, Qualifier,

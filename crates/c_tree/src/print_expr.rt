@@ -50,8 +50,8 @@ use crate::text::{write_close, write_comma, write_line, write_number, write_open
 use crate::word::{BinaryOperator, Qualifier};
 use tso_words::NoMemory;
 
-// How tightly a binary operator binds, the weakest 3.
-fn precedence(operator: BinaryOperator) -> u8
+/// How tightly a binary operator binds, the weakest 3.
+pub fn precedence(operator: BinaryOperator) -> u8
     ensures value { result ≡ precedence_of (binary_of operator) }
     ensures small { result ≤ 12 }
 {

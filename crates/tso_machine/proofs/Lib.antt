@@ -1,7 +1,9 @@
+pub mod Begun
 pub mod Blocks
 pub mod Running
 pub mod Waits
 pub mod Chosen
+pub mod KnownItems
 pub mod Least
 pub mod MapLists
 pub mod Skipped

@@ -1,5 +1,6 @@
 pub mod Bytes
 pub mod Choices
+pub mod Known
 pub mod Machines
 pub mod Proper
 pub mod Skips

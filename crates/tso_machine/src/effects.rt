@@ -5,18 +5,42 @@ ghost use Rattle.tso_core.specs.declared.offer.Offer.TheVariants as O;
 ghost use Rattle.tso_core.specs.declared.offer.Answer.TheVariants.{Nothing, Value};
 ghost use Rattle.tso_core.specs.Language.{Language, Takes};
 ghost use Rattle.tso_core.specs.Runs.{IsProper};
-ghost use Rattle.tso_core.specs.Shared.{effect_of};
+ghost use Rattle.tso_core.specs.Shared.{answered, effect_of};
 ghost use Rattle.tso_machine.specs.State.{core_state, OffersAt, EffectGives};
 
 use crate::keep::Core;
+use crate::known::load_at;
 use crate::resuming::{push_at, resume_at};
 use std::alloc::Global;
 use tso_core::Event;
 use tso_core::language::ThreadLang;
 use tso_core::offer::{Answer, Now, StepOut, StepRefusal};
 use tso_core::placement::Placement;
-use tso_memory::{Item, view_load};
+use tso_memory::Item;
 use tso_words::{Chunk, Val};
+
+/// The thread goes on with the value that its load found.
+fn go_on_with<L: ThreadLang>(
+    alloc: Global,
+    p: &L::Program,
+    at: &Placement,
+    core: &mut Core<L::Thread>,
+    i: usize,
+    chunk: Chunk,
+    addr: Val,
+    v: Val,
+) -> Result<StepOut, StepRefusal>
+    requires proper { IsProper (L.language p.now).globals at.now }
+    requires thread { i < length core.old.threads.items }
+    requires offers { OffersAt (L.language p.now) (O.Load chunk addr) i (core_state L.state_of at.now core.old) }
+    ensures { EffectGives (L.language p.now) (answered (core_state L.state_of at.now core.old).shared (Some v)) i (core_state L.state_of at.now core.old) (core_state L.state_of at.now core.new) result }
+{
+    resume_at::<L>(alloc, p, at, &mut core.threads, i, Answer::Value(v))?;
+    Ok(StepOut {
+        event: None,
+        now: core.now,
+    })
+}
 
 /// The thread loads through its own buffer.
 pub fn load<L: ThreadLang>(
@@ -38,8 +62,7 @@ pub fn load<L: ThreadLang>(
     if choice.is_some() {
         return Err(StepRefusal::NotEnabled);
     }
-    let buffer = &core.buffers[i];
-    match view_load(&core.memory, buffer, chunk, addr) {
+    match load_at(&core.memory, &core.buffers, &mut core.known, i, chunk, addr) {
         Err(_) => {
             core.now = Now::Wrong;
             Ok(StepOut {
@@ -47,13 +70,7 @@ pub fn load<L: ThreadLang>(
                 now: Now::Wrong,
             })
         }
-        Ok(v) => {
-            resume_at::<L>(alloc, p, at, &mut core.threads, i, Answer::Value(v))?;
-            Ok(StepOut {
-                event: None,
-                now: core.now,
-            })
-        }
+        Ok(v) => go_on_with::<L>(alloc, p, at, core, i, chunk, addr, v),
     }
 }
 

@@ -12,6 +12,7 @@ ghost use Rattle.tso_words.specs.declared.value.Val.TheVariants.{Word};
 ghost use Rattle.tso_machine.specs.State.{core_state, given_from, OffersAt, EffectGives};
 
 use crate::keep::Core;
+use crate::known::forget;
 use crate::resuming::{add_at, remove_at, resume_at};
 use std::alloc::Global;
 use tso_core::language::ThreadLang;
@@ -103,6 +104,7 @@ fn give<L: ThreadLang>(
     let kind = Kind::Heap;
     let object = Object { base, size, kind };
     let answer = Answer::Value(Val::Word(base));
+    forget(&mut core.known);
     add_at::<L>(
         alloc,
         p,
@@ -167,6 +169,7 @@ fn end_block<L: ThreadLang>(
         });
     }
     let answer = Answer::Nothing;
+    forget(&mut core.known);
     remove_at::<L>(
         alloc,
         p,

@@ -53,6 +53,11 @@ impl<'a, L: ThreadLang> Machine<'a, L> {
 
     /// One step of a schedule. `NotEnabled` comes exactly where the step, with the default choice
     /// where it gives none, is not enabled. After a refusal the machine is as it was.
+    ///
+    /// Most steps take constant time over all steps. A load takes a few walks over its thread's
+    /// buffer, and one more for each item there that no load has tried since the objects changed
+    /// last; a store or an atomic step in memory a search among the objects; and what begins or
+    /// ends an object a walk over the objects and the threads, a Place one over all buffers too.
     pub fn step(&mut self, s: &Step) -> Result<StepOut, StepRefusal>
         ensures gives { MachineGives (L.language (machine_program self.old)) s.now (machine_state L.state_of self.old) (machine_state L.state_of self.new) result }
         ensures same_program { machine_program self.new ≡ machine_program self.old }

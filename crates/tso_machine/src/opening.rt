@@ -107,11 +107,13 @@ pub fn opened<L: ThreadLang>(
 {
     let memory = opening_memory(alloc, L::globals(p), at)?;
     let buffers = list_of_one(alloc, Buffer::new(alloc))?;
+    let known = list_of_one(alloc, 0)?;
     let ended = list_of_one(alloc, false)?;
     let threads = list_of_one(alloc, L::first(alloc, p, at)?)?;
     Ok(Core {
         memory,
         buffers,
+        known,
         ended,
         threads,
         now: Now::Running,

@@ -76,16 +76,20 @@ pub fn resume_adding<L: ThreadLang>(
     }
 }
 
-/// A buffer without items and the mark of a thread that has not ended stand behind the others.
+/// A buffer without items, of which nothing is known, and the mark of a thread that has not ended
+/// stand behind the others.
 pub fn add_buffer(
     alloc: Global,
     buffers: &mut Vec<Buffer>,
+    known: &mut Vec<usize>,
     ended: &mut Vec<bool>,
 ) -> Result<(), StepRefusal>
     ensures memory { IfErr result (λ e. e ≡ R.NoMemory) }
     ensures added { OnOk result (map (λ b. b.items) buffers.new.items ≡ map (λ b. b.items) buffers.old.items ++ [] ∷ []) }
+    ensures counted { OnOk result (known.new.items ≡ known.old.items ++ 0 ∷ []) }
     ensures begun { OnOk result (ended.new.items ≡ ended.old.items ++ false ∷ []) }
     ensures same_buffers { OnErr result (buffers.new.items ≡ buffers.old.items) }
+    ensures same_known { OnErr result (known.new.items ≡ known.old.items) }
     ensures same_ended { OnErr result (ended.new.items ≡ ended.old.items) }
     ensures buffer_more { OnOk result (length buffers.new.items ≡ length buffers.old.items + 1) }
     ensures as_many_buffers { OnErr result (length buffers.new.items ≡ length buffers.old.items) }
@@ -93,11 +97,14 @@ pub fn add_buffer(
     if ended.reserve(1).is_err() {
         return Err(StepRefusal::NoMemory);
     }
+    if known.reserve(1).is_err() {
+        return Err(StepRefusal::NoMemory);
+    }
     if buffers.push(Buffer::new(alloc)).is_err() {
         return Err(StepRefusal::NoMemory);
     }
-    match ended.push(false) {
-        Ok(()) => Ok(()),
-        Err(_) => unreachable!(),
+    match (known.push(0), ended.push(false)) {
+        (Ok(()), Ok(())) => Ok(()),
+        _ => unreachable!(),
     }
 }

@@ -1,13 +1,16 @@
 //! A thread at a place that goes on, together with a change of memory or of buffers.
 
-ghost use Rattle.std.specs.Prelude.{◌≡◌, ◌<◌, ◌∷◌, [], ◌++◌, ◌+◌, ◌≢◌, ◌==◌, true, length, map, OnOk, OnErr, IfErr, slice_get, slice_set, None, Some, false};
+ghost use Rattle.std.specs.Prelude.{◌≡◌, ◌<◌, ◌∷◌, [], ◌++◌, ◌+◌, ◌≢◌, ◌==◌, true, ℕ, List, length, map, OnOk, OnErr, IfErr, slice_get, slice_set, None, Some, false};
 ghost use Rattle.tso_core.specs.declared.offer.StepRefusal.TheVariants as R;
 ghost use Rattle.tso_core.specs.Language.{Language, Takes};
 ghost use Rattle.tso_core.specs.Runs.{IsProper};
 ghost use Rattle.tso_core.specs.Shared.{items_or_none};
 ghost use Rattle.tso_memory.specs.Buffer.{IsSoundItem, applied};
 ghost use Rattle.tso_memory.specs.Memory.{IsSound, IsApart, added, only, removed};
+ghost use Rattle.tso_memory.specs.declared.object.Object.{Object};
 ghost use Rattle.tso_memory.specs.Kept.{memory_of};
+ghost use Rattle.tso_memory.specs.Through.{is_store};
+ghost use Rattle.tso_machine.specs.Known.{are_known};
 ghost use Rattle.tso_words.specs.declared.value.Cell.TheVariants.{Blank};
 ghost use Rattle.std.specs.List.{list_any};
 
@@ -65,13 +68,14 @@ pub fn push_at<L: ThreadLang>(
     ensures same_buffers { OnErr result (map (λ b. b.items) buffers.new.items ≡ map (λ b. b.items) buffers.old.items) }
     ensures as_many { length threads.new.items ≡ length threads.old.items }
     ensures as_many_buffers { length buffers.new.items ≡ length buffers.old.items }
+    ensures known { (os : List Object) (ks : List ℕ) → are_known os (map (λ b. b.items) buffers.old.items) ks ≡ true → are_known os (map (λ b. b.items) buffers.new.items) ks ≡ true }
 {
     let buffer = &mut buffers[i];
     let thread = &mut threads[i];
     resume_pushing::<L>(alloc, p, at, thread, buffer, answer, item)
 }
 
-/// The thread at a place goes on, and an item that is right reaches memory at once.
+/// The thread at a place goes on, and a store that is right reaches memory at once.
 pub fn apply_at<L: ThreadLang>(
     alloc: Global,
     p: &L::Program,
@@ -87,11 +91,13 @@ pub fn apply_at<L: ThreadLang>(
     requires takes { (s : L.State) → slice_get (map L.state_of threads.old.items) i ≡ Some s → Takes ((L.language p.now).offer at.now s) answer }
     requires sound { IsSoundItem item }
     requires right { applied (memory_of memory.old) item ≢ None }
+    requires store { is_store item ≡ true }
     ensures resumed { OnOk result ((s : L.State) → slice_get (map L.state_of threads.old.items) i ≡ Some s → map L.state_of threads.new.items ≡ slice_set (map L.state_of threads.old.items) i ((L.language p.now).resumed at.now s answer)) }
     ensures applied { OnOk result (applied (memory_of memory.old) item ≡ Some (memory_of memory.new)) }
     ensures memory { IfErr result (λ e. e ≡ R.NoMemory) }
     ensures same_threads { OnErr result (map L.state_of threads.new.items ≡ map L.state_of threads.old.items) }
     ensures same_memory { OnErr result (memory_of memory.new ≡ memory_of memory.old) }
+    ensures same_objects { memory.new.objects ≡ memory.old.objects }
     ensures as_many { length threads.new.items ≡ length threads.old.items }
 {
     if memory.reserve().is_err() {
@@ -171,6 +177,7 @@ pub fn add_thread_at<L: ThreadLang>(
     at: &Placement,
     threads: &mut Vec<L::Thread>,
     buffers: &mut Vec<Buffer>,
+    known: &mut Vec<usize>,
     ended: &mut Vec<bool>,
     i: usize,
     answer: Answer,
@@ -181,21 +188,24 @@ pub fn add_thread_at<L: ThreadLang>(
     requires takes { (s : L.State) → slice_get (map L.state_of threads.old.items) i ≡ Some s → Takes ((L.language p.now).offer at.now s) answer }
     ensures resumed { OnOk result ((s : L.State) → slice_get (map L.state_of threads.old.items) i ≡ Some s → map L.state_of threads.new.items ≡ slice_set (map L.state_of threads.old.items) i ((L.language p.now).resumed at.now s answer) ++ L.state_of further ∷ []) }
     ensures added { OnOk result (map (λ b. b.items) buffers.new.items ≡ map (λ b. b.items) buffers.old.items ++ [] ∷ []) }
+    ensures counted { OnOk result (known.new.items ≡ known.old.items ++ 0 ∷ []) }
     ensures begun { OnOk result (ended.new.items ≡ ended.old.items ++ false ∷ []) }
     ensures memory { IfErr result (λ e. e ≡ R.NoMemory) }
     ensures same_threads { OnErr result (map L.state_of threads.new.items ≡ map L.state_of threads.old.items) }
     ensures same_buffers { OnErr result (map (λ b. b.items) buffers.new.items ≡ map (λ b. b.items) buffers.old.items) }
+    ensures same_known { OnErr result (known.new.items ≡ known.old.items) }
     ensures same_ended { OnErr result (ended.new.items ≡ ended.old.items) }
     ensures as_many { OnOk result (length threads.new.items ≡ length threads.old.items + 1) }
     ensures no_more { OnErr result (length threads.new.items ≡ length threads.old.items) }
     ensures buffer_more { OnOk result (length buffers.new.items ≡ length buffers.old.items + 1) }
     ensures as_many_buffers { OnErr result (length buffers.new.items ≡ length buffers.old.items) }
 {
-    add_buffer(alloc, buffers, ended)?;
+    add_buffer(alloc, buffers, known, ended)?;
     match resume_adding::<L>(alloc, p, at, threads, i, answer, further) {
         Ok(()) => Ok(()),
         Err(e) => {
             let _ = buffers.pop();
+            let _ = known.pop();
             let _ = ended.pop();
             Err(e)
         }

@@ -1,6 +1,6 @@
 //! The steps of a machine over what it keeps: a run of a thread, and a drain of a buffer.
 
-ghost use Rattle.std.specs.Prelude.{◌≡◌, ◌<◌, ◌^◌, true, false, length, map, ◌≢◌, slice_get, slice_set, None, IfSome};
+ghost use Rattle.std.specs.Prelude.{◌≡◌, ◌<◌, ◌^◌, true, false, List, length, map, ◌≢◌, slice_get, slice_set, None, Some, IfSome};
 ghost use Rattle.tso_core.specs.declared.offer.Answer.TheVariants.{Nothing};
 ghost use Rattle.tso_core.specs.declared.offer.Now.TheVariants as N;
 ghost use Rattle.tso_core.specs.declared.offer.Offer.TheVariants as O;
@@ -9,7 +9,10 @@ ghost use Rattle.tso_core.specs.Language.{Language, Takes};
 ghost use Rattle.tso_core.specs.Machine.{step};
 ghost use Rattle.tso_core.specs.Runs.{IsProper};
 ghost use Rattle.tso_core.specs.Shared.{items_or_none};
+ghost use Rattle.tso_memory.specs.declared.object.Object.{Object};
 ghost use Rattle.tso_memory.specs.Buffer.{IsSoundItem};
+ghost use Rattle.tso_memory.specs.Through.{objects_at};
+ghost use Rattle.tso_machine.specs.Known.{are_known};
 ghost use Rattle.tso_machine.specs.Choices.{MachineGives};
 ghost use Rattle.tso_machine.specs.State.{core_state, flag, OffersAt, ActGives, CannotRun, StepGives, oldest_of, behind};
 
@@ -19,6 +22,7 @@ use crate::choices::default_choice;
 use crate::effects::{exit, fence, lift, load, store};
 use crate::heap::{free, malloc};
 use crate::keep::Core;
+use crate::known::count_drained;
 use crate::resuming::resume_at;
 use crate::threads::{end, start};
 use std::alloc::Global;
@@ -183,12 +187,17 @@ fn drop_first(buffer: &mut Buffer)
     }
 }
 
-/// Takes the oldest item of the buffer at a place off.
-fn drop_oldest(buffers: &mut Vec<Buffer>, i: usize)
-    requires { i < length buffers.old.items }
+/// Takes the oldest item of the buffer at a place off, once it is in memory.
+fn drop_oldest(buffers: &mut Vec<Buffer>, known: &mut Vec<usize>, i: usize, item: &Item)
+    requires buffer { i < length buffers.old.items }
+    requires counts { length known.old.items ≡ length buffers.old.items }
+    requires oldest { Some item.now ≡ oldest_of (items_or_none (slice_get (map (λ b. b.items) buffers.old.items) i)) }
     ensures rest { map (λ b. b.items) buffers.new.items ≡ slice_set (map (λ b. b.items) buffers.old.items) i (behind (items_or_none (slice_get (map (λ b. b.items) buffers.old.items) i))) }
     ensures as_many { length buffers.new.items ≡ length buffers.old.items }
+    ensures as_many_counts { length known.new.items ≡ length known.old.items }
+    ensures known { (os : List Object) → are_known os (map (λ b. b.items) buffers.old.items) known.old.items ≡ true → are_known (objects_at item.now os) (map (λ b. b.items) buffers.new.items) known.new.items ≡ true }
 {
+    count_drained(known, i, item);
     let buffer = &mut buffers[i];
     drop_first(buffer);
 }
@@ -221,7 +230,7 @@ pub fn drain<L: ThreadLang>(
         return Err(StepRefusal::NotEnabled);
     };
     match core.memory.apply(&item) {
-        Ok(()) => drop_oldest(&mut core.buffers, i),
+        Ok(()) => drop_oldest(&mut core.buffers, &mut core.known, i, &item),
         Err(ApplyRefusal::Wrong) => core.now = Now::Wrong,
         Err(ApplyRefusal::NoMemory) => return Err(StepRefusal::NoMemory),
     }

@@ -5,7 +5,7 @@ ghost use Rattle.tso_core.specs.declared.offer.Answer.TheVariants.{Value};
 ghost use Rattle.tso_core.specs.declared.offer.Offer.TheVariants as O;
 ghost use Rattle.tso_core.specs.Language.{Language, Takes};
 ghost use Rattle.tso_core.specs.Runs.{IsProper};
-ghost use Rattle.tso_core.specs.Shared.{effect_of};
+ghost use Rattle.tso_core.specs.Shared.{effect_of, spawned};
 ghost use Rattle.tso_machine.specs.State.{core_state, OffersAt, EffectGives};
 
 use crate::keep::Core;
@@ -45,6 +45,52 @@ pub fn end<L: ThreadLang>(
     })
 }
 
+/// A further thread begins; its number is answered. Where no function can be called so, the machine
+/// goes wrong.
+fn spawn<L: ThreadLang>(
+    alloc: Global,
+    p: &L::Program,
+    at: &Placement,
+    core: &mut Core<L::Thread>,
+    i: usize,
+    fun: Val,
+    arg: Val,
+) -> Result<StepOut, StepRefusal>
+    requires proper { IsProper (L.language p.now).globals at.now }
+    requires thread { i < length core.old.threads.items }
+    requires unborn { length core.old.ended.items ≡ length core.old.buffers.items }
+    requires offers { OffersAt (L.language p.now) (O.Start fun arg) i (core_state L.state_of at.now core.old) }
+    ensures { EffectGives (L.language p.now) (spawned (core_state L.state_of at.now core.old).shared fun arg) i (core_state L.state_of at.now core.old) (core_state L.state_of at.now core.new) result }
+{
+    if core.buffers.len() >= THREADS {
+        return Err(StepRefusal::NotEnabled);
+    }
+    let Some(further) = L::started(alloc, p, at, fun, arg)? else {
+        core.now = Now::Wrong;
+        return Ok(StepOut {
+            event: None,
+            now: core.now,
+        });
+    };
+    let answer = Answer::Value(Val::Word(core.buffers.len() as u32));
+    add_thread_at::<L>(
+        alloc,
+        p,
+        at,
+        &mut core.threads,
+        &mut core.buffers,
+        &mut core.known,
+        &mut core.ended,
+        i,
+        answer,
+        further,
+    )?;
+    Ok(StepOut {
+        event: None,
+        now: core.now,
+    })
+}
+
 /// A further thread begins, with an empty buffer; its number is answered. Where no function can be
 /// called so, the machine goes wrong.
 pub fn start<L: ThreadLang>(
@@ -70,30 +116,5 @@ pub fn start<L: ThreadLang>(
     if !core.buffers[i].items().is_empty() {
         return Err(StepRefusal::NotEnabled);
     }
-    if core.buffers.len() >= THREADS {
-        return Err(StepRefusal::NotEnabled);
-    }
-    let Some(further) = L::started(alloc, p, at, fun, arg)? else {
-        core.now = Now::Wrong;
-        return Ok(StepOut {
-            event: None,
-            now: core.now,
-        });
-    };
-    let answer = Answer::Value(Val::Word(core.buffers.len() as u32));
-    add_thread_at::<L>(
-        alloc,
-        p,
-        at,
-        &mut core.threads,
-        &mut core.buffers,
-        &mut core.ended,
-        i,
-        answer,
-        further,
-    )?;
-    Ok(StepOut {
-        event: None,
-        now: core.now,
-    })
+    spawn::<L>(alloc, p, at, core, i, fun, arg)
 }

@@ -1,6 +1,7 @@
 -- Lists of items.
 use Rattle.std.proofs.Common.{◌≡◌, ℕ, zero, suc, ◌+◌, ◌-◌, ◌%◌, ◌==◌, nat_lt, ◌<◌, Bool, true, false, List, [], ◌∷◌, ◌++◌, length, length-append, get_or, take, drop, map, refl, ap, ◌∙◌, sym, arith, ◌&&◌, if◌then◌else◌}
 use Rattle.std.specs.List.{list_all}
+use Rattle.std.proofs.Math.Bool.{and_assoc}
 use Rattle.std.proofs.lemmas.List.{take_rest, drop-append-le, drop_more, get_or-map}
 use Rattle.tso_memory.specs.declared.object.Object.{Object}
 use Rattle.tso_memory.specs.declared.buffer.Item.{Item}
@@ -28,16 +29,12 @@ list_all-map : {X Y : Type 0} (p : Y → Bool) (f : X → Y) (xs : List X) → l
 list_all-map p f [] = refl
 list_all-map p f (x ∷ xs) = ap (λ z. p (f x) && z) (list_all-map p f xs)
 
-and_assoc : (a b c : Bool) → (a && (b && c)) ≡ ((a && b) && c)
-and_assoc true b c = refl
-and_assoc false b c = refl
-
 pending-parts : (base size t : ℕ) (bs : List BufferMeaning) (d : BufferMeaning) → t < length bs → pending_ok base size t (map (λ b. b.items) bs) ≡ (list_all (λ b. unplaced base size b.items) (take t bs) && (places_lifted base size (get_or bs t d).items && list_all (λ b. unplaced base size b.items) (drop (t + 1) bs)))
 pending-parts base size t [] d h = absurd (omega arith)
 pending-parts base size zero (b ∷ bs) d h = ap (λ z. places_lifted base size b.items && z) (list_all-map (unplaced base size) (λ b. b.items) bs)
 pending-parts base size (suc t) (b ∷ bs) d h =
     let next : suc t + 1 ≡ suc (t + 1) = omega arith in
-    ap (λ z. unplaced base size b.items && z) (pending-parts base size t bs d (omega arith)) ∙ (and_assoc (unplaced base size b.items) (list_all (λ b. unplaced base size b.items) (take t bs)) (places_lifted base size (get_or bs t d).items && list_all (λ b. unplaced base size b.items) (drop (t + 1) bs)) ∙ ap (λ z. list_all (λ b. unplaced base size b.items) (take (suc t) (b ∷ bs)) && (places_lifted base size (get_or bs t d).items && list_all (λ b. unplaced base size b.items) (drop z (b ∷ bs)))) (sym next))
+    ap (λ z. unplaced base size b.items && z) (pending-parts base size t bs d (omega arith)) ∙ (sym (and_assoc (unplaced base size b.items) (list_all (λ b. unplaced base size b.items) (take t bs)) (places_lifted base size (get_or bs t d).items && list_all (λ b. unplaced base size b.items) (drop (t + 1) bs))) ∙ ap (λ z. list_all (λ b. unplaced base size b.items) (take (suc t) (b ∷ bs)) && (places_lifted base size (get_or bs t d).items && list_all (λ b. unplaced base size b.items) (drop z (b ∷ bs)))) (sym next))
 
 module _ (base size t : ℕ) (bs : List BufferMeaning) (d : BufferMeaning) (h : t < length bs) (front : Bool) (e : front ≡ list_all (λ b. unplaced base size b.items) (take t bs)) where
   pub pending_front : front ≡ false → false ≡ pending_ok base size t (map (λ b. b.items) bs)

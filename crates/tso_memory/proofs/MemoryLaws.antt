@@ -1,8 +1,9 @@
 -- Laws of memory and of the view, for the crates above.
-use Rattle.std.proofs.Common.{◌≡◌, ℕ, zero, suc, ◌+◌, ◌-◌, ◌%◌, ◌<◌, ◌≤◌, Bool, true, false, not, List, [], ◌∷◌, ◌++◌, Option, Some, None, refl, sym, ap, ◌∙◌, inl, inr, ◌⊎◌, arith, if◌then◌else◌, ◌&&◌, ◌||◌, ◌==◌, nat_lt}
+use Rattle.std.proofs.Common.{◌≡◌, ℕ, zero, suc, ◌+◌, ◌-◌, ◌%◌, ◌<◌, ◌≤◌, Bool, true, false, not, List, [], ◌∷◌, ◌++◌, length, take, Option, Some, None, refl, sym, ap, ◌∙◌, inl, inr, ◌⊎◌, arith, if◌then◌else◌, ◌&&◌, ◌||◌, ◌==◌, nat_lt}
 use Rattle.std.specs.List.{filter, list_any}
 use Rattle.std.proofs.lemmas.Bool.{cond-true, cond-false, cond_both, and_parts, and_from, or_cases, or_left, or_right, false≢true}
 use Rattle.std.proofs.lemmas.Bool.Decides.{nat_tests}
+use Rattle.std.proofs.lemmas.List.{take-append-le}
 use Rattle.tso_words.specs.declared.value.Val.{Val}
 use Rattle.tso_words.specs.declared.value.Val.TheVariants.{Undef, Word}
 use Rattle.tso_words.specs.declared.value.Cell.{Cell}
@@ -14,6 +15,7 @@ use Rattle.tso_memory.specs.declared.buffer.Item.{Item}
 use Rattle.tso_memory.specs.declared.buffer.Item.TheVariants.{Put, Place, Lift}
 use Rattle.tso_memory.specs.Memory.{MemoryMeaning, holds, is_in, is_live, is_met, is_at, is_right, cells_from, value_at, load, cells_put, put, only, inserted, added, unmet, lifted}
 use Rattle.tso_memory.specs.Buffer.{local, applied, and_then, view, loaded}
+use Rattle.tso_memory.specs.Through.{objects_at, is_right_item, is_store, all_right}
 use Rattle.tso_memory.proofs.ObjectLists.{cells_from-same, live_held}
 
 -- ---- a load after a store
@@ -166,3 +168,38 @@ load-added_elsewhere m o start d x r apart =
 pub load-place_elsewhere : (m : MemoryMeaning) (base size : ℕ) (d : Chunk) (x : ℕ) → is_right (unmet base size m.objects) d (Word x) ≡ true → is_right m.objects d (Word x) ≡ true → (x + chunk_size d ≤ base) ⊎ (base + size ≤ x) → loaded (applied m (Place base size)) d (Word x) ≡ load m d (Word x)
 load-place_elsewhere m base size d x r q apart =
     load-added_elsewhere (only (unmet base size m.objects) m) (local base size) Blank d x r apart ∙ load-only m (λ o. not (is_met base size o)) d x r q
+
+-- ---- the first items of a buffer, known to be right
+
+-- a pushed item is none of them
+pub all_right-pushed : (os : List Object) (is : List Item) (i : Item) (k : ℕ) → k ≤ length is → all_right os (take k (is ++ i ∷ [])) ≡ all_right os (take k is)
+all_right-pushed os is i k h = ap (all_right os) (take-append-le k is (i ∷ []) h)
+
+-- behind the oldest, which reaches memory, the others stay right
+pub all_right-drained : (os : List Object) (i : Item) (is : List Item) (k : ℕ) → all_right os (take (suc k) (i ∷ is)) ≡ true → all_right (objects_at i os) (take k is) ≡ true
+all_right-drained os i is k e = (and_parts (is_right_item os i) (all_right (objects_at i os) (take k is)) e).1
+
+objects_same : (m n : MemoryMeaning) → Some m ≡ Some n → n.objects ≡ m.objects
+objects_same m n e = cc
+
+-- the objects after an item that was applied
+pub objects-applied : (m n : MemoryMeaning) (i : Item) → applied m i ≡ Some n → n.objects ≡ objects_at i m.objects
+objects-applied m n (Put c a v) e = by_test (is_right m.objects c a) e
+  where
+    by_test : (b : Bool) → (if b then Some (record m { cells = cells_put m.cells c a v }) else None) ≡ Some n → n.objects ≡ m.objects
+    by_test true e = objects_same _ n e
+    by_test false e = absurd (none_some e)
+      where
+        none_some : ◌≡◌ {A = Option MemoryMeaning} None (Some n) → ⊥
+        none_some e = cc
+objects-applied m n (Place base size) e = objects_same _ n e
+objects-applied m n (Lift base size) e = objects_same _ n e
+
+-- a store leaves them
+pub objects_at-store : (i : Item) (os : List Object) → is_store i ≡ true → objects_at i os ≡ os
+objects_at-store (Put c a v) os e = refl
+objects_at-store (Place base size) os e = absurd (false≢true e)
+objects_at-store (Lift base size) os e = absurd (false≢true e)
+
+pub objects-stored : (m n : MemoryMeaning) (i : Item) → is_store i ≡ true → applied m i ≡ Some n → n.objects ≡ m.objects
+objects-stored m n i s e = objects-applied m n i e ∙ objects_at-store i m.objects s

@@ -1,8 +1,9 @@
 -- The view, item by item: its objects, the object with a range, and one cell.
 use Rattle.std.proofs.Common.{◌≡◌, ℕ, zero, suc, ◌+◌, ◌-◌, ◌%◌, ◌<◌, ◌≤◌, Bool, true, false, not, List, [], ◌∷◌, ◌++◌, length, get_or, take, drop, replicate, Option, Some, None, refl, sym, ap, ◌∙◌, arith, if◌then◌else◌, ◌&&◌, ◌||◌, nat_le, nat_lt, cond, is_some}
 use Rattle.std.specs.List.{find, filter, list_any, list_all}
-use Rattle.std.proofs.lemmas.List.{get_or_append_left, take_more, drop_more, drop_all}
-use Rattle.std.proofs.lemmas.Bool.{leb-true, eq-eqb, cond-true, cond-false, and_parts, or_parts, false≢true, true≢false}
+use Rattle.std.proofs.lemmas.List.{get_or_append_left, take_more, drop_more, drop_all, drop-take, take-append-drop}
+use Rattle.std.proofs.Math.Bool.{and_assoc}
+use Rattle.std.proofs.lemmas.Bool.{leb-true, eq-eqb, cond-true, cond-false, and_parts, and_from, or_parts, false≢true, true≢false}
 use Rattle.std.proofs.lemmas.Bool.Decides.{nat_tests}
 use Rattle.tso_words.specs.declared.value.Val.{Val}
 use Rattle.tso_words.specs.declared.value.Val.TheVariants.{Undef, Word}
@@ -108,28 +109,44 @@ AreSoundItems-take [] (suc k) h = tt
 AreSoundItems-take (i ∷ is) zero h = tt
 AreSoundItems-take (i ∷ is) (suc k) h = (h.0, AreSoundItems-take is k h.1)
 
-pub all_right_step : (items : List Item) (k : ℕ) (os : List Object) (d : Item) (b : Bool) → k < length items → is_right_item (objects_after os (take k items)) (get_or items k d) ≡ b → all_right (objects_after os (take k items)) (drop k items) ≡ all_right os items → (b && all_right (objects_after os (take (k + 1) items)) (drop (k + 1) items)) ≡ all_right os items
-all_right_step items k os d b h e f = sym (all_right_more items k os d h ∙ ap (λ z. z && all_right (objects_after os (take (k + 1) items)) (drop (k + 1) items)) e) ∙ f
+-- one item more is tried, among objects that are those behind the items in front of it
+pub all_right_step : (items : List Item) (k : ℕ) (os here : List Object) (d : Item) (b : Bool) → k < length items → here ≡ objects_after os (take k items) → is_right_item here (get_or items k d) ≡ b → all_right (objects_after os (take k items)) (drop k items) ≡ all_right os items → (b && all_right (objects_after os (take (k + 1) items)) (drop (k + 1) items)) ≡ all_right os items
+all_right_step items k os here d b h f e g = sym (all_right_more items k os d h ∙ ap (λ z. z && all_right (objects_after os (take (k + 1) items)) (drop (k + 1) items)) (ap (λ z. is_right_item z (get_or items k d)) (sym f) ∙ e)) ∙ g
 
-pub all_right_end : (items : List Item) (k : ℕ) (os : List Object) → length items ≤ k → all_right (objects_after os (take k items)) (drop k items) ≡ all_right os items → true ≡ all_right os items
-all_right_end items k os h e = sym (ap (all_right (objects_after os (take k items))) (drop_all k items h)) ∙ e
+-- the stores in front of other items leave the objects
+objects_after-front : (is : List Item) (n front : ℕ) (os : List Object) → n ≤ front → list_all is_store (take front is) ≡ true → objects_after os (drop n is) ≡ objects_after os is
+objects_after-front is zero front os h e = refl
+objects_after-front [] (suc n) front os h e = refl
+objects_after-front (i ∷ is) (suc n) zero os h e = absurd (by_order h)
+  where
+    by_order : suc n ≤ 0 → ⊥
+    by_order h = omega (arith, h)
+objects_after-front (Put c a v ∷ is) (suc n) (suc front) os h e = objects_after-front is n front os (omega (arith, h)) e
+objects_after-front (Place b k ∷ is) (suc n) (suc front) os h e = absurd (false≢true e)
+objects_after-front (Lift b k ∷ is) (suc n) (suc front) os h e = absurd (false≢true e)
 
-and_assoc : (a b c : Bool) → (a && (b && c)) ≡ ((a && b) && c)
-and_assoc true b c = refl
-and_assoc false b c = refl
+-- so a walk up to an item may begin behind some of them
+pub objects_after-between : (is : List Item) (n k front : ℕ) (os : List Object) → n ≤ k → n ≤ front → list_all is_store (take front is) ≡ true → objects_after os (take (k - n) (drop n is)) ≡ objects_after os (take k is)
+objects_after-between is n k front os h l e =
+    let whole : n + (k - n) ≡ k = omega (arith, h) in
+    ap (objects_after os) (sym (drop-take n (k - n) is) ∙ ap (λ z. drop n (take z is)) whole) ∙ objects_after-front (take k is) n front os l (all_before is front k e)
+  where
+    all_before : (is : List Item) (front k : ℕ) → list_all is_store (take front is) ≡ true → list_all is_store (take front (take k is)) ≡ true
+    all_before is zero k e = refl
+    all_before [] (suc front) zero e = refl
+    all_before [] (suc front) (suc k) e = refl
+    all_before (i ∷ is) (suc front) zero e = refl
+    all_before (i ∷ is) (suc front) (suc k) e =
+        let parts = and_parts (is_store i) (list_all is_store (take front is)) e in
+        and_from (is_store i) (list_all is_store (take front (take k is))) parts.0 (all_before is front k parts.1)
 
--- stores in front of other items leave the objects
-pub all_right_stores : (os : List Object) (is : List Item) (n : ℕ) → list_all is_store (take n is) ≡ true → (list_all (is_right_item os) (take n is) && all_right os (drop n is)) ≡ all_right os is
-all_right_stores os [] zero e = refl
-all_right_stores os [] (suc n) e = refl
-all_right_stores os (i ∷ is) zero e = refl
-all_right_stores os (Put c a v ∷ is) (suc n) e = sym (and_assoc (is_right os c a) (list_all (is_right_item os) (take n is)) (all_right os (drop n is))) ∙ ap (λ z. is_right os c a && z) (all_right_stores os is n e)
-all_right_stores os (Place b k ∷ is) (suc n) e = absurd (false≢true e)
-all_right_stores os (Lift b k ∷ is) (suc n) e = absurd (false≢true e)
+all_right-append : (os : List Object) (xs ys : List Item) → all_right os (xs ++ ys) ≡ (all_right os xs && all_right (objects_after os xs) ys)
+all_right-append os [] ys = refl
+all_right-append os (x ∷ xs) ys = ap (λ z. is_right_item os x && z) (all_right-append (objects_at x os) xs ys) ∙ sym (and_assoc (is_right_item os x) (all_right (objects_at x os) xs) (all_right (objects_after (objects_at x os) xs) ys))
 
-pub all_right_split : (os : List Object) (is front rest : List Item) (n : ℕ) (b d : Bool) → front ≡ take n is → rest ≡ drop n is → list_all is_store (take n is) ≡ true → b ≡ list_all (is_right_item os) front → d ≡ all_right os rest → (b && d) ≡ all_right os is
-all_right_split os is front rest n b d e f h p q =
-    ap (λ z. z && d) (p ∙ ap (list_all (is_right_item os)) e) ∙ (ap (λ z. list_all (is_right_item os) (take n is) && z) (q ∙ ap (all_right os) f) ∙ all_right_stores os is n h)
+-- where those in front are right, only the others are to be tried
+pub all_right-known : (os : List Object) (is : List Item) (k : ℕ) → all_right os (take k is) ≡ true → all_right (objects_after os (take k is)) (drop k is) ≡ all_right os is
+all_right-known os is k e = sym (sym (ap (all_right os) (take-append-drop k is)) ∙ (all_right-append os (take k is) (drop k is) ∙ ap (λ z. z && all_right (objects_after os (take k is)) (drop k is)) e))
 
 pub AreSoundItems-drop : (is : List Item) (k : ℕ) → AreSoundItems is → AreSoundItems (drop k is)
 AreSoundItems-drop [] zero h = tt
@@ -210,6 +227,14 @@ view_wrong (i ∷ is) m r = by_test (is_right_item m.objects i) refl r (λ first
     by_test true e f ih =
         let first = after_item i m e in
         ap (λ o. and_then o (λ n. view n is)) first.1.applied_is ∙ ih first.0 (ap (λ os. all_right os is) first.1.objects ∙ f)
+
+-- so there is a view just where each store is right in its turn
+pub is_some-view : (m : MemoryMeaning) (is : List Item) → is_some (view m is) ≡ all_right m.objects is
+is_some-view m is = by_test (all_right m.objects is) refl
+  where
+    by_test : (b : Bool) → all_right m.objects is ≡ b → is_some (view m is) ≡ b
+    by_test true e = ap is_some (view_known is m e).1
+    by_test false e = ap is_some (view_wrong is m e)
 
 -- a load from the view, by the cells behind the items
 pub view_refused : (is : List Item) (m : MemoryMeaning) (c : Chunk) (v : Val) → all_right m.objects is ≡ false → loaded (view m is) c v ≡ None

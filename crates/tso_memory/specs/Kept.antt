@@ -1,4 +1,4 @@
--- What the fields of a memory stand for. The cells are kept in pages, an entry for each page number; a cell that no store or new object has touched has what its object began with.
+-- What the fields of a memory and of a buffer stand for. The cells are kept in pages, an entry for each page number; a cell that no store or new object has touched has what its object began with.
 use Rattle.std.specs.Prelude.{◌≡◌, ℕ, ◌+◌, ◌*◌, ◌/◌, ◌%◌, ◌<◌, ◌≤◌, List, [], ◌∷◌, length, drop, Option, Some, None, IsSome, slice_index_or, ◌&&◌, nat_lt, nat_le, if◌then◌else◌}
 use Rattle.std.specs.Option.{unwrap_or}
 use Rattle.tso_words.specs.declared.value.Cell.{Cell}

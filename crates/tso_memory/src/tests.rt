@@ -99,6 +99,20 @@ fn views_are(
     Ok(true)
 }
 
+/// The word at an address behind the items of a buffer, which are right, and one item more; `None`
+/// where that one is not right, or the load is not.
+fn word_behind(m: &Memory, b: &mut Buffer, item: Item, addr: u32) -> Result<Option<Val>, Fail> {
+    let known = b.items().len();
+    if !is_sound(&item) || !is_view_right(m, b, 0) {
+        return Ok(None);
+    }
+    b.push(item)?;
+    if !is_view_right(m, b, known) {
+        return Ok(None);
+    }
+    Ok(load_in_view(m, b, Chunk::I32, Val::Word(addr)).ok())
+}
+
 /// Whether `place_ok` answers as each row says.
 fn places_are(m: &Memory, buffers: &[Buffer], rows: &[(usize, u32, u32, u32, bool)]) -> bool {
     for &(thread, base, size, align, wanted) in rows {
@@ -227,6 +241,30 @@ fn own_items_are_seen(rt: HostRuntime) -> Result<(), Fail> {
         ([lift(x, 8), place(x, 4), three], Some(Val::Word(3))),
     ];
     assert!(rt; views_are(rt.alloc(), &m, x, &rows)?);
+    Ok(())
+}
+
+/// Only the last item is tried behind the others.
+#[test]
+fn items_known_to_be_right(rt: HostRuntime) -> Result<(), Fail> {
+    let x = 0x9000_0000;
+    let m = memory_after(rt.alloc(), &[place(x, 8)])?;
+    let one = put(Chunk::I32, x, 1);
+    let rows = [
+        ([one, one], put(Chunk::I32, x, 2), Some(Val::Word(2))),
+        ([one, one], put(Chunk::I32, x + 8, 2), None),
+        ([one, lift(x, 8)], put(Chunk::I32, x + 4, 2), None),
+        (
+            [one, place(x, 4)],
+            put(Chunk::I32, x, 3),
+            Some(Val::Word(3)),
+        ),
+        ([one, place(x, 4)], put(Chunk::I32, x + 4, 3), None),
+    ];
+    for (items, item, wanted) in rows {
+        let mut b = buffer_of(rt.alloc(), &items)?;
+        assert!(rt; word_behind(&m, &mut b, item, x)? == wanted);
+    }
     Ok(())
 }
 

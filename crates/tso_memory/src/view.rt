@@ -119,34 +119,22 @@ fn count_front_stores(items: &[Item]) -> usize
     items.len()
 }
 
-/// Whether each item is no store, or one that is right among the live objects.
-fn are_right_now(m: &Memory, items: &[Item]) -> bool
-    ensures { result ≡ list_all (is_right_item m.now.objects) items.now }
-{
-    items.iter().all(|item| is_right_item(m, &[], item))
-}
-
-/// Whether each store among the items is right in its turn, by a walk over all in front of it.
-fn are_right_in_turn(m: &Memory, items: &[Item]) -> bool
-    requires { AreSoundItems items.now }
+/// Whether each store among the items is right in its turn, where those among the first `known`
+/// are. A store in front of the first Place or Lift is tried among the live objects, another one
+/// by a walk from there.
+fn are_right_from(m: &Memory, items: &[Item], known: usize) -> bool
+    requires sound { AreSoundItems items.now }
+    requires within { known ≤ length items.now }
+    requires right { all_right m.now.objects (take known items.now) ≡ true }
     ensures { result ≡ all_right m.now.objects items.now }
 {
-    for k in 0..items.len() {
-        if !is_right_item(m, &items[..k], &items[k]) {
+    let stores = count_front_stores(items);
+    for k in known..items.len() {
+        if !is_right_item(m, &items[stores.min(k)..k], &items[k]) {
             return false;
         }
     }
     true
-}
-
-/// Whether each store among the items is right in its turn. Those in front of the first Place or
-/// Lift are tried among the live objects.
-fn are_right(m: &Memory, items: &[Item]) -> bool
-    requires { AreSoundItems items.now }
-    ensures { result ≡ all_right m.now.objects items.now }
-{
-    let (stores, rest) = items.split_at(count_front_stores(items));
-    are_right_now(m, stores) && are_right_in_turn(m, rest)
 }
 
 /// The cell at an address in the view behind these items, where it is live there.
@@ -160,20 +148,29 @@ fn cell_behind(m: &Memory, items: &[Item], x: u32) -> Cell
     cell
 }
 
-/// The value that a load of a thread finds: that of the memory after all items of its buffer. It
-/// is refused where a store among the items is not right in its turn, or the access is not right
+/// Whether a thread has a view: each store in its buffer is right in its turn. Those among the
+/// first `known` items are not tried again.
+///
+/// It costs a walk over the buffer, and for each store behind the first `known` items a search
+/// among the objects and a walk from the first Place or Lift up to the store.
+pub fn is_view_right(m: &Memory, b: &Buffer, known: usize) -> bool
+    requires within { known ≤ length b.now.items }
+    requires right { all_right m.now.objects (take known b.now.items) ≡ true }
+    ensures { result ≡ all_right m.now.objects b.now.items }
+{
+    are_right_from(m, b.items(), known)
+}
+
+/// The value that a load of a thread finds, where each store in its buffer is right in its turn:
+/// that of the memory after all items of the buffer. It is refused where the access is not right
 /// there.
 ///
-/// It costs a few walks over the buffer, a search among the objects for each store in it, and for
-/// each store behind the first Place or Lift a walk from there up to the store: with stores alone
-/// the length of the buffer times the search, and at worst its square.
-pub fn view_load(m: &Memory, b: &Buffer, chunk: Chunk, addr: Val) -> Result<Val, WrongAccess>
+/// It costs a few walks over the buffer and a search among the objects.
+pub fn load_in_view(m: &Memory, b: &Buffer, chunk: Chunk, addr: Val) -> Result<Val, WrongAccess>
+    requires { all_right m.now.objects b.now.items ≡ true }
     ensures { MatchResult result (λ v. loaded (view (memory_of m.now) b.now.items) chunk addr ≡ Some v) (λ _. loaded (view (memory_of m.now) b.now.items) chunk addr ≡ None) }
 {
     let items = b.items();
-    if !are_right(m, items) {
-        return Err(WrongAccess);
-    }
     if !is_right_behind(m, items, chunk, addr) {
         return Err(WrongAccess);
     }
@@ -196,4 +193,19 @@ pub fn view_load(m: &Memory, b: &Buffer, chunk: Chunk, addr: Val) -> Result<Val,
             ],
         ),
     })
+}
+
+/// The value that a load of a thread finds: that of the memory after all items of its buffer. It
+/// is refused where a store among the items is not right in its turn, or the access is not right
+/// there.
+///
+/// It costs what `is_view_right` and `load_in_view` cost where nothing is known of the items: at
+/// worst the square of the buffer's length.
+pub fn view_load(m: &Memory, b: &Buffer, chunk: Chunk, addr: Val) -> Result<Val, WrongAccess>
+    ensures { MatchResult result (λ v. loaded (view (memory_of m.now) b.now.items) chunk addr ≡ Some v) (λ _. loaded (view (memory_of m.now) b.now.items) chunk addr ≡ None) }
+{
+    if !is_view_right(m, b, 0) {
+        return Err(WrongAccess);
+    }
+    load_in_view(m, b, chunk, addr)
 }

@@ -1,5 +1,6 @@
 -- Drains that are answered, where the buffers are paired.
 use Rattle.std.proofs.Common.{◌≡◌, List, [], ◌∷◌, ◌++◌, append_assoc, length, Option, Some, None, refl, sym, ap, subst, ◌∙◌, ◌⊎◌, inl, inr}
+use Rattle.std.proofs.lemmas.List.{append-nil}
 use Rattle.tso_memory.specs.Memory.{MemoryMeaning}
 use Rattle.tso_memory.specs.Buffer.{view}
 use Rattle.tso_core.specs.Language.{Language}
@@ -7,7 +8,7 @@ use Rattle.tso_core.specs.Shared.{buffer_of}
 use Rattle.tso_pairs.specs.Groups.{Pairing, sources, target_view, ArePaired, KeepsPair, Drains}
 use Rattle.tso_pairs.specs.Draining.{ComesToWrong}
 use Rattle.tso_pairs.specs.Answering.{AnswersDrain, DrainsAnswered, Empties, EmptiesAnswered}
-use Rattle.tso_pairs.proofs.Grouped.{views_paired, drains_paired, append_none}
+use Rattle.tso_pairs.proofs.Grouped.{views_paired, drains_paired}
 use Rattle.tso_pairs.proofs.Drained.{front_drains, wrong_front_drains}
 
 sources-append : (p : Pairing) (xs ys : List p.Group) → sources p (xs ++ ys) ≡ sources p xs ++ sources p ys
@@ -43,7 +44,7 @@ module _ {State : Type 0} (l : Language State) (p : Pairing) (keeps : KeepsPair 
   empties_answered m i n gs run buffer pair fit e = go (view m.shared.memory (sources p gs)) refl (subst (λ z. ArePaired p (view m.shared.memory (sources p gs)) (target_view p n z)) e (views_paired p keeps m.shared.memory n gs pair fit))
     where
       whole : buffer_of m.shared i ≡ sources p gs ++ []
-      whole = buffer ∙ sym (append_none (sources p gs))
+      whole = buffer ∙ sym (append-nil (sources p gs))
 
       go : (a : Option MemoryMeaning) → view m.shared.memory (sources p gs) ≡ a → ArePaired p a (Some n) → ComesToWrong l m i ⊎ Empties l p m i n
       go None q h = inl (wrong_front_drains l m i (sources p gs) [] run whole q)

@@ -1,7 +1,9 @@
 -- What follows for whole buffers from what holds of each group.
-use Rattle.std.proofs.Common.{◌≡◌, List, [], ◌∷◌, ◌++◌, Option, Some, None, Bool, true, false, refl, sym, ap, subst, ◌∙◌}
+use Rattle.std.proofs.Common.{◌≡◌, List, [], ◌∷◌, ◌++◌, Option, Some, None, refl, sym, ap, subst, ◌∙◌}
 use Rattle.std.specs.Prelude.{◌||◌}
+use Rattle.std.proofs.Math.Bool.{or_assoc}
 use Rattle.std.proofs.lemmas.Bool.{or_parts, or_from}
+use Rattle.std.proofs.lemmas.List.{append-nil}
 use Rattle.tso_memory.specs.declared.buffer.Item.{Item}
 use Rattle.tso_memory.specs.declared.buffer.Item.TheVariants.{Put, Place, Lift}
 use Rattle.tso_memory.specs.Memory.{MemoryMeaning}
@@ -9,15 +11,12 @@ use Rattle.tso_memory.specs.Buffer.{view}
 use Rattle.tso_memory.specs.Buffer as source
 use Rattle.tso_memory.proofs.MemoryLaws.{view-append}
 use Rattle.tso_core.specs.Shared.{holds_put}
+use Rattle.tso_core.proofs.Lists.{none_some}
 use Rattle.tso_pairs.specs.Groups.{Pairing, one_or_none, and_then, sources, targets, target_view, holds_write, Fit, ArePaired, KeepsPair, ViewsPaired, Drains, DrainsPaired, PutsPaired, NoPutAlone}
 
 and_then_some : {A : Type 0} (o : Option A) → and_then o (λ n. Some n) ≡ o
 and_then_some None = refl
 and_then_some (Some n) = refl
-
-pub append_none : {A : Type 0} (xs : List A) → xs ++ [] ≡ xs
-append_none [] = refl
-append_none (x ∷ xs) = ap (λ l. x ∷ l) (append_none xs)
 
 holds_put-append : (xs ys : List Item) → holds_put (xs ++ ys) ≡ (holds_put xs || holds_put ys)
 holds_put-append [] ys = refl
@@ -34,16 +33,9 @@ same_tail x y xs ys e = cc
 no_item : {A : Type 0} (y : A) (ys : List A) → [] ≡ y ∷ ys → ⊥
 no_item y ys e = cc
 
-none_some : (n : MemoryMeaning) → None ≡ Some n → ⊥
-none_some n e = cc
-
 and_then_twice : {A : Type 0} (o : Option A) (f g : A → Option A) → and_then o (λ a. and_then (f a) g) ≡ and_then (and_then o f) g
 and_then_twice None f g = refl
 and_then_twice (Some a) f g = refl
-
-or_assoc : (a b c : Bool) → (a || (b || c)) ≡ ((a || b) || c)
-or_assoc true b c = refl
-or_assoc false b c = refl
 
 module _ (p : Pairing) where
   target_append : (n : p.Store) (xs ys : List p.Held) → target_view p n (xs ++ ys) ≡ and_then (target_view p n xs) (λ k. target_view p k ys)
@@ -56,7 +48,7 @@ module _ (p : Pairing) where
 
   holds_write-append : (xs ys : List p.Held) → holds_write p (xs ++ ys) ≡ (holds_write p xs || holds_write p ys)
   holds_write-append [] ys = refl
-  holds_write-append (x ∷ xs) ys = ap (λ b. p.is_write x || b) (holds_write-append xs ys) ∙ or_assoc (p.is_write x) (holds_write p xs) (holds_write p ys)
+  holds_write-append (x ∷ xs) ys = ap (λ b. p.is_write x || b) (holds_write-append xs ys) ∙ sym (or_assoc (p.is_write x) (holds_write p xs) (holds_write p ys))
 
   -- the groups up to the first with an item of the output
   record Split (gs : List p.Group) (rest : List p.Held) : Type 0 where
@@ -97,10 +89,10 @@ module _ (p : Pairing) where
           left = gs;
           split = refl;
           rest_is = same_tail i item (targets p gs) rest f;
-          paired = subst (λ z. ArePaired p z (p.apply n item)) (ap (view m) (sym (append_none (p.source g))))
+          paired = subst (λ z. ArePaired p z (p.apply n item)) (ap (view m) (sym (append-nil (p.source g))))
               (subst (λ z. ArePaired p (view m (p.source g)) (p.apply n z)) (same_head i item (targets p gs) rest f)
               (subst (ArePaired p (view m (p.source g))) (and_then_some (p.apply n i)) h));
-          fit = λ k q. fit.1 k (ap (view m) (sym (append_none (p.source g))) ∙ q);
+          fit = λ k q. fit.1 k (ap (view m) (sym (append-nil (p.source g))) ∙ q);
         }
 
         -- the group has none, and the input goes on

@@ -1,5 +1,6 @@
 -- A further group behind those that wait.
 use Rattle.std.proofs.Common.{◌≡◌, List, [], ◌∷◌, ◌++◌, append_assoc, Some, refl, sym, ap, ◌∙◌}
+use Rattle.std.proofs.lemmas.List.{append-nil}
 use Rattle.tso_memory.specs.Memory.{MemoryMeaning}
 use Rattle.tso_memory.specs.Buffer.{view}
 use Rattle.tso_memory.specs.Buffer as buffer
@@ -7,17 +8,13 @@ use Rattle.tso_memory.proofs.MemoryLaws.{view-append}
 use Rattle.tso_pairs.specs.Groups.{Pairing, one_or_none, sources, targets, Fit}
 use Rattle.tso_pairs.specs.Growing.{GroupsGrow}
 
-append_none : {A : Type 0} (xs : List A) → xs ++ [] ≡ xs
-append_none [] = refl
-append_none (x ∷ xs) = ap (λ l. x ∷ l) (append_none xs)
-
 module _ (p : Pairing) where
   sources_grow : (gs : List p.Group) (g : p.Group) → sources p (gs ++ g ∷ []) ≡ sources p gs ++ p.source g
-  sources_grow [] g = append_none (p.source g)
+  sources_grow [] g = append-nil (p.source g)
   sources_grow (f ∷ gs) g = ap (λ l. p.source f ++ l) (sources_grow gs g) ∙ sym (append_assoc (p.source f) (sources p gs) (p.source g))
 
   targets_grow : (gs : List p.Group) (g : p.Group) → targets p (gs ++ g ∷ []) ≡ targets p gs ++ one_or_none (p.target g)
-  targets_grow [] g = append_none (one_or_none (p.target g))
+  targets_grow [] g = append-nil (one_or_none (p.target g))
   targets_grow (f ∷ gs) g = ap (λ l. one_or_none (p.target f) ++ l) (targets_grow gs g) ∙ sym (append_assoc (one_or_none (p.target f)) (targets p gs) (one_or_none (p.target g)))
 
   fit_grows : (m : MemoryMeaning) (gs : List p.Group) (g : p.Group) → Fit p m gs → ((k : MemoryMeaning) → view m (sources p gs) ≡ Some k → p.Side k g) → Fit p m (gs ++ g ∷ [])

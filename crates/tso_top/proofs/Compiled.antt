@@ -1,15 +1,15 @@
 -- What `compile` answers, from how its file was read and what its bytes compile to.
 use Rattle.std.proofs.Common.{◌≡◌, ℕ, List, [], refl, sym, ◌∙◌, ap, subst, Option, Some, None, Result, Ok, Err, inl, inr, Vec, Global}
 use Rattle.tso_outside.specs.Views.{held, StoreView}
-use Rattle.tso_top.specs.declared.status.Status.{Status}
-use Rattle.tso_top.specs.declared.status.Status.TheVariants.{Done, NoMemory, NotBuilt}
-use Rattle.tso_top.specs.declared.whole.ReadRefusal.{ReadRefusal}
-use Rattle.tso_top.specs.Statuses.{line_of}
+use Rattle.tso_status.specs.declared.status.Status.{Status}
+use Rattle.tso_status.specs.declared.status.Status.TheVariants.{Done, NoMemory, NotBuilt}
+use Rattle.tso_files.specs.declared.whole.ReadRefusal.{ReadRefusal}
+use Rattle.tso_status.specs.Statuses.{line_of}
 use Rattle.tso_top.specs.Commands.{Compile, Compiling, IsBuilt, IsNotBuilt}
 use Rattle.tso_top.specs.Promise.{ByNoMemory}
 use Rattle.tso_top.specs.Tokens.{TenTokens}
 use Rattle.tso_top.specs.Compiles.{Compiles}
-use Rattle.tso_top.specs.Whole.{IsWhole, ReadsWhole}
+use Rattle.tso_files.specs.Whole.{IsWhole, ReadsWhole}
 use Rattle.tso_top.specs.Answers.{TextFor, status_of}
 use Rattle.tso_top.proofs.Outcomes.{must_within, only_within, must_refused, only_refused, free, refused_not_usage, refused_not_write, refused_not_done, refused_cause}
 

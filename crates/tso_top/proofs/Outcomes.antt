@@ -1,17 +1,20 @@
 -- From how a file is read to the outcome that the files ask for.
-use Rattle.std.proofs.Common.{◌≡◌, ◌≢◌, ℕ, List, refl, sym, ap, subst, Option, Some, None, Result, Ok, Err, inl, inr, ◌⊎◌, Vec, Global, arith}
+use Rattle.std.proofs.Common.{◌≡◌, ◌≢◌, ℕ, List, [], ◌++◌, refl, sym, ap, subst, Option, Some, None, Result, Ok, Err, inl, inr, ◌⊎◌, Vec, Global, arith}
+use Rattle.std.proofs.lemmas.List.{append-nil}
 use Rattle.std.specs.Option.{ForSome}
 use Rattle.std.specs.Prelude.{MatchOption, ◌↔◌}
 use Rattle.tso_outside.specs.Views.{Files, held, StoreView, SinkView, Rose, ReadCause}
 use Rattle.tso_outside.specs.declared.outside.Failed.{Failed}
-use Rattle.tso_top.specs.declared.status.Status.{Status}
-use Rattle.tso_top.specs.declared.status.Status.TheVariants.{Done, Usage, ReadFault, WriteFault, TooLong, NoMemory}
-use Rattle.tso_top.specs.declared.whole.ReadRefusal.{ReadRefusal}
-use Rattle.tso_top.specs.declared.whole.ReadRefusal.TheVariants as refusal
-use Rattle.tso_top.specs.Statuses.{line_of}
-use Rattle.tso_top.specs.Commands.{Command, Compile, Outcome, Reading, Missing, Passes, Within, Compiling}
-use Rattle.tso_top.specs.Promise.{Promise, Refuses, IsQuiet, IsFree, ByReadFault, ByWriteFault, ByNoMemory, Exactly, IsAsked, IsMissing, Prints}
-use Rattle.tso_top.specs.Whole.{IsWhole, ReadsWhole, PutsWhole}
+use Rattle.tso_status.specs.declared.status.Status.{Status}
+use Rattle.tso_status.specs.declared.status.Status.TheVariants.{Done, Usage, ReadFault, WriteFault, TooLong, NoMemory}
+use Rattle.tso_files.specs.declared.whole.ReadRefusal.{ReadRefusal}
+use Rattle.tso_files.specs.declared.whole.ReadRefusal.TheVariants as refusal
+use Rattle.tso_status.specs.Statuses.{line_of}
+use Rattle.tso_top.specs.Commands.{Command, Compile, Target, Outcome, Reading, Missing, Passes, Within, ReadingBoth, Compiling, text_limit}
+use Rattle.tso_top.specs.Replays.{Targeting}
+use Rattle.tso_top.specs.Promise.{Promise, Refuses, IsQuiet, IsFree, ByReadFault, ByWriteFault, ByNoMemory, Exactly, IsAsked, IsMissing, Prints, PutsAll}
+use Rattle.tso_files.specs.Whole.{IsWhole, ReadsWhole, PutsWhole}
+use Rattle.tso_files.proofs.Causes.{turns_same}
 use Rattle.tso_top.specs.Answers.{status_of}
 
 -- what holds before a file is read leads on to what its bytes lead to
@@ -21,7 +24,7 @@ module _ (limit : ℕ) (next : List ℕ → Status → List ℕ → Type 0) wher
   must_too_long o long s lines (Passes bytes passes) = refl
   must_too_long o long s lines (Within bytes status printed within rest) = absurd (omega arith)
 
-  only_too_long : (o : Option (List ℕ)) → IsWhole o limit (Err refusal.TooLong) → Reading limit next o TooLong (line_of TooLong)
+  pub only_too_long : (o : Option (List ℕ)) → IsWhole o limit (Err refusal.TooLong) → Reading limit next o TooLong (line_of TooLong)
   only_too_long None long = absurd long
   only_too_long (Some bytes) long = Passes bytes long
 
@@ -51,6 +54,12 @@ module _ (limit : ℕ) (next : List ℕ → Status → List ℕ → Type 0) wher
   there o s lines (Passes bytes passes) e none = cc
   there o s lines (Within bytes status printed within rest) e none = cc
 
+-- of two that lead to Done the second is there too
+both_there : (limit : ℕ) (next : List ℕ → List ℕ → Status → List ℕ → Type 0) (o p : Option (List ℕ)) (s : Status) (lines : List ℕ) → ReadingBoth limit next o p s lines → s ≡ Done → p ≡ None → ⊥
+both_there limit next o p s lines Missing e none = cc
+both_there limit next o p s lines (Passes bytes passes) e none = cc
+both_there limit next o p s lines (Within bytes status printed within rest) e none = there limit (next bytes) p status printed rest e none
+
 pub free : (c : Command) (files : Files) (s : Status) → IsFree s → Exactly c files s
 free c files s f = record { must = λ t lines outcome. inl f; only = inl f }
 
@@ -75,9 +84,20 @@ pub prints : (u v : SinkView) (lines : List ℕ) (r : Result (Unit {0}) Failed) 
 prints u v lines (Ok done) a = record { later = a.later; prefix = a.prefix; whole = λ quiet. a.whole; nothing = a.nothing }
 prints u v lines (Err failed) a = record { later = a.later; prefix = a.prefix; whole = λ quiet. absurd (not_rose u.faults v.faults quiet a.cause); nothing = a.nothing }
 
+-- where there are no lines, all are put
+pub none_put : (lines : List ℕ) (a b : SinkView) → lines ≡ [] → Prints lines a b → PutsAll lines a b
+none_put lines a b none p =
+    let P : List ℕ → Type 0 = λ ls. PutsAll ls a b in
+    let Q : SinkView → Type 0 = λ s. PutsAll [] a s in
+    subst P (sym none) (subst Q (sym (p.nothing none)) (turns_same (λ old new. new ≡ old ++ []) (λ old. sym (append-nil old)) a.bytes a.bytes refl))
+
 -- where the files ask for Done, none that the command reads is missing
 not_missing : (c : Command) (files : Files) (lines : List ℕ) → Outcome c files Done lines → IsMissing c files → ⊥
 not_missing (Compile i o) files lines outcome missing = elim missing [ inl none ↦ there 4194304 Compiling (held files i) Done lines outcome refl none | inr more ↦ more ]
+not_missing (Target i j) files lines outcome missing = elim missing [
+  | inl none ↦ there text_limit (λ a s ls. Reading text_limit (Targeting a) (held files j) s ls) (held files i) Done lines outcome refl none
+  | inr more ↦ elim more [ inl none ↦ both_there text_limit Targeting (held files i) (held files j) Done lines outcome refl none | inr nothing ↦ nothing ]
+]
 
 complete_free : (c : Command) (u w : StoreView) (files : Files) (s : Status) → IsFree s → u.files ≡ Some files → (IsMissing c files → ⊥) → (s ≡ ReadFault → ReadCause (IsMissing c) u w) → IsQuiet u.read_faults w.read_faults → (s ≡ WriteFault → ⊥) → (s ≡ Done) ⊎ (s ≡ NoMemory)
 complete_free c u w files s ByReadFault e none cause quiet no_write = absurd (elim (cause refl) [ inl rose ↦ not_rose u.read_faults w.read_faults quiet rose | inr missed ↦ none (missed.1 files e) ])

@@ -1,17 +1,17 @@
 -- A command that writes a file: from its text, or the status in its place, to its promise.
-use Rattle.std.proofs.Common.{◌≡◌, ◌≢◌, ℕ, List, take, refl, sym, ◌∙◌, subst, Option, Some, None, Result, Ok, Err, inl, inr, ◌⊎◌, Vec, Global}
+use Rattle.std.proofs.Common.{◌≡◌, ◌≢◌, ℕ, List, take, refl, sym, ◌∙◌, ap, subst, Option, Some, None, Result, Ok, Err, inl, inr, ◌⊎◌, Vec, Global}
 use Rattle.std.specs.Option.{ForSome}
 use Rattle.tso_outside.specs.declared.outside.Failed.{Failed}
 use Rattle.tso_outside.specs.Views.{Files, held, StoreView, SinkView, Rose, Later, ReadCause, Turns}
-use Rattle.tso_top.specs.declared.status.Status.{Status}
-use Rattle.tso_top.specs.declared.status.Status.TheVariants.{Done, Usage, ReadFault, WriteFault}
-use Rattle.tso_top.specs.Statuses.{line_of}
+use Rattle.tso_status.specs.declared.status.Status.{Status}
+use Rattle.tso_status.specs.declared.status.Status.TheVariants.{Done, Usage, ReadFault, WriteFault}
+use Rattle.tso_status.specs.Statuses.{line_of}
 use Rattle.tso_top.specs.Commands.{Command, writes, Makes, Outcome}
 use Rattle.tso_top.specs.Promise.{IsQuietFor, Prints, Promise, AreLines, WriteCause, ByWriteFault, Exactly, IsAsked, IsMissing, Leaves, OutAfter, Written, Begun, AsItWas}
-use Rattle.tso_top.specs.Whole.{WritesWhole}
+use Rattle.tso_files.specs.Whole.{WritesWhole}
 use Rattle.tso_top.specs.Answers.{TextFor, WritesText, Refused, IsWhole, IsCut}
-use Rattle.tso_top.proofs.Causes.{later_trans, rose_from, turns_same}
-use Rattle.tso_top.proofs.Outcomes.{free, done_not_free, not_rose, completed}
+use Rattle.tso_files.proofs.Causes.{later_trans, rose_from, turns_same}
+use Rattle.tso_top.proofs.Outcomes.{free, done_not_free, not_rose, none_put, completed}
 
 module _ (c : Command) (output : List ℕ) (writing : writes c ≡ Some output) (u : StoreView) where
   -- what it does to the store, whatever is printed
@@ -81,7 +81,7 @@ module _ (c : Command) (output : List ℕ) (writing : writes c ≡ Some output) 
         write_fault = λ e. subst C (sym writing) (by e);
         complete = λ files e asked quiet quiet_write. completed c u w s d.exact d.read_fault files e asked quiet (λ fault. not_rose u.write_faults w.write_faults (subst Q writing quiet_write) (by fault).0);
         store = subst S (sym writing) d.store;
-        sink = record { lines = line_of s; are = subst L (sym writing) refl; prints = p };
+        sink = record { lines = line_of s; are = subst L (sym writing) refl; prints = p; done = λ e. none_put (line_of s) a b (ap line_of e) p };
       }
 
 -- an answer that is written

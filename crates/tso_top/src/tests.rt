@@ -249,11 +249,13 @@ fn a_sink_that_fails(rt: HostRuntime) -> Result<(), Fail> {
 fn words_that_are_no_command(rt: HostRuntime) -> Result<(), Fail> {
     let alloc = rt.alloc();
     let mut store = MemStore::made(Vec::new(alloc), 8, Vec::new(alloc));
-    let all: [&[&str]; 5] = [
+    let all: [&[&str]; 7] = [
         &[],
         &["compile", "a.c"],
         &["compile", "a.c", "a.s", "more"],
         &["Compile", "a.c", "a.s"],
+        &["target", "a.s"],
+        &["target", "a.s", "a.sched", "more"],
         &["source", "a.c", "a.sched"],
     ];
     for list in all {
@@ -264,20 +266,5 @@ fn words_that_are_no_command(rt: HostRuntime) -> Result<(), Fail> {
         assert!(rt; out.bytes.as_slice() == "usage\n".as_bytes());
     }
     assert_eq!(rt; store.calls, 0);
-    Ok(())
-}
-
-#[test]
-fn a_file_that_is_read_whole(rt: HostRuntime) -> Result<(), Fail> {
-    let alloc = rt.alloc();
-    let mut store = store_with(alloc, "a.c", SEVEN.as_bytes(), 8, Vec::new(alloc))?;
-    let read = read_whole(alloc, &mut store, "a.c", 28);
-    assert!(rt; read.is_ok_and(|bytes| bytes.as_slice() == SEVEN.as_bytes()));
-    assert_eq!(rt; store.calls, 5);
-    let long = read_whole(alloc, &mut store, "a.c", 27);
-    assert!(rt; long.is_err_and(|refusal| refusal == ReadRefusal::TooLong));
-    let missing = read_whole(alloc, &mut store, "b.c", 28);
-    assert!(rt; missing.is_err_and(|refusal| refusal == ReadRefusal::ReadFault));
-    assert_eq!(rt; store.misses, 1);
     Ok(())
 }

@@ -1,5 +1,5 @@
 //! The addresses of the labels of an assembly.
-ghost use Rattle.std.specs.Prelude.{◌≡◌, [], ◌∷◌, ◌++◌, ◌≤◌, IfOk, OnOk};
+ghost use Rattle.std.specs.Prelude.{◌≡◌, [], ◌∷◌, ◌++◌, ◌+◌, ◌≤◌, IfOk, OnOk};
 ghost use Rattle.x86_lang.specs.Assembly.{
   code_end,
   code_label,
@@ -28,6 +28,9 @@ pub const CODE_START: u32 = 0x0800_0000;
 /// The address of the first byte of the data.
 pub const DATA_START: u32 = 0x2000_0000;
 
+/// The address behind the last byte that the data may have.
+pub const HEAP_START: u32 = 0x3000_0000;
+
 // Adds a name with its address.
 fn add(places: &mut Vec<(Name, u32)>, name: &Name, at: u32) -> Result<(), NoMemory>
     ensures { OnOk result (places.new.items ≡ places.old.items ++ (name.now, at) ∷ []) }
@@ -49,8 +52,8 @@ fn code_size(line: &CodeLine) -> u32
     }
 }
 
-// The number of bytes of a line that begins at this address.
-fn size_at(at: u32, line: &StaticLine) -> u32
+/// The number of bytes of a line of data that begins at this address.
+pub fn size_at(at: u32, line: &StaticLine) -> u32
     requires { IsAlignment line.now }
     ensures { result ≡ size_at at line.now }
 {
@@ -126,6 +129,30 @@ fn labels_of(alloc: Global, parts: &Parts) -> Result<Vec<(Name, u32)>, NoMemory>
     add_code_labels(&mut places, parts.code.as_slice())?;
     add_data_labels(&mut places, parts.statics.as_slice())?;
     Ok(places)
+}
+
+// Where lines of data end, the first of which begins where the data does.
+fn data_end(lines: &[StaticLine]) -> u32
+    requires ends { data_end data_start lines.now ≤ heap_start }
+    requires aligned { AllOf IsAlignment lines.now }
+    ensures value { result ≡ data_end data_start lines.now }
+    ensures behind { data_start ≤ result }
+{
+    let mut at = DATA_START;
+    let mut rest = lines;
+    while let [line, after @ ..] = rest {
+        at += size_at(at, line);
+        rest = after;
+    }
+    at
+}
+
+/// The number of bytes of the data.
+pub fn data_size(a: &Asm) -> u32
+    ensures size { data_start + result ≡ data_end data_start a.now.statics }
+    ensures fits { data_start + result ≤ heap_start }
+{
+    data_end(a.parts().statics.as_slice()) - DATA_START
 }
 
 /// Where the labels stand: a label of code at the instruction that follows it, instruction i at

@@ -4,8 +4,7 @@ use Rattle.std.specs.Prelude.{bytes_eq, find, position, slice_get, MatchOption, 
 use Rattle.std.specs.List.{position_or_len}
 use Rattle.std.specs.Option.{option_map}
 use Rattle.std.proofs.lemmas.Bool.{ltb-false, false≢true}
-use Rattle.x86_lines.proofs.Found.{found_fits, found_mnemonic}
-use Rattle.x86_lines.proofs.RenderedInstr.{any_form}
+use Rattle.x86_lines.proofs.Found.{any_form, found_fits, found_mnemonic}
 use Rattle.std.proofs.lemmas.List.Sums.{fails_before_first}
 use Rattle.std.proofs.lemmas.Option.{slice_get-get_or, slice_get_within, get_or_from_slice_get}
 use Rattle.x86_table.specs.declared.mnemonic.Mnemonic.{Mnemonic}

@@ -2,9 +2,6 @@ pub mod BitsRead
 pub mod Cuts
 pub mod FirstPiece
 pub mod Found
-pub mod Rendered
-pub mod RenderedInstr
-pub mod RenderedMemory
 pub mod Sizes
 pub mod NumberRead
 pub mod Registered

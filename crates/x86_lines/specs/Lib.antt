@@ -2,9 +2,7 @@ pub mod Fitting
 pub mod Grammar
 pub mod Numbers
 pub mod Pieces
-pub mod Printed
 pub mod Registers
-pub mod Views
 pub mod Reading
 pub mod Told
 pub mod Finding

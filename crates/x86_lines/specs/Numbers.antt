@@ -1,6 +1,5 @@
 -- Numbers of an assembly text: decimal with an optional '-', or hexadecimal behind '0x'; any number of digits, and leading zeros change nothing. What a number stands for in so many bits.
-use Rattle.std.specs.Prelude.{ℕ, ◌+◌, ◌-◌, ◌%◌, ◌<◌, ◌≤◌, Bool, true, false, List, ◌∷◌, nat_lt, if◌then◌else◌}
-use Rattle.std.specs.Fmt.{decimal}
+use Rattle.std.specs.Prelude.{ℕ, ◌+◌, ◌-◌, ◌%◌, ◌<◌, ◌≤◌, Bool, true, false, List, ◌∷◌}
 use Rattle.std.specs.Str.Parse.{IsNumeral, digits_value}
 
 -- a piece that is a number, whether it has a '-', and its size
@@ -29,10 +28,3 @@ IsWord = IsBits 2147483648
 pub data IsCount : List ℕ → ℕ → Type 0 where
   Plain : (piece : List ℕ) (n : ℕ) → IsNumber piece false n → IsCount piece n
   MinusZero : (piece : List ℕ) → IsNumber piece true 0 → IsCount piece 0
-
--- the signed decimal that is printed for bits of a width whose sign bit is `half`
-abbrev pub signed_text : ℕ → ℕ → List ℕ
-signed_text half n = if nat_lt n half then decimal n else 45 ∷ decimal (half + half - n)
-
-abbrev pub word_text : ℕ → List ℕ
-word_text n = signed_text 2147483648 n

@@ -1,7 +1,6 @@
-//! Lines of assembly text that are instructions: their operands, and their printed form.
+//! Lines of assembly text that are instructions: their pieces, their operands, and their reading.
 //!
-//! `specs/Grammar.antt` says which lists of pieces are an instruction; `specs/Printed.antt` has the
-//! printed form.
+//! `specs/Grammar.antt` says which lists of pieces are an instruction.
 #![tactic(auto)]
 
 pub mod bits;
@@ -9,8 +8,6 @@ pub mod instr_reading;
 pub mod number;
 pub mod operand_reading;
 pub mod piece;
-pub mod printing;
 pub mod register_names;
 #[cfg(test)]
 mod tests;
-pub mod view;

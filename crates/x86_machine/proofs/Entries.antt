@@ -8,7 +8,7 @@ use Rattle.x86_lang.specs.declared.assembly.CodeLine.{CodeLine}
 use Rattle.x86_lang.specs.declared.assembly.CodeLine.TheVariants as code
 use Rattle.x86_lang.specs.Assembly.{assembly_of, labels_of, code_start, instructions}
 use Rattle.x86_lang.specs.declared.assembly.Parts.{Parts}
-use Rattle.x86_machine.specs.declared.program.Placed.{Placed}
+use Rattle.x86_machine.specs.declared.table.Placed.{Placed}
 use Rattle.x86_machine.specs.Target.{name_of, address_or_zero, instruction_at}
 use Rattle.x86_machine.specs.Tables.{entries_of, entry_at, IsEntry}
 

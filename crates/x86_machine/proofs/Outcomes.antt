@@ -1,6 +1,10 @@
 -- What holds of an outcome, from what holds of another.
-use Rattle.std.proofs.Common.{◌≡◌, ◌∙◌, ℕ, Ok, Err, Option, None, List, [], ◌∷◌, length, not, true, false, ◌==◌, refl, ap, arith, Bool}
-use Rattle.std.specs.Prelude.{Result, IfOk}
+use Rattle.std.proofs.Common.{◌≡◌, ◌∙◌, ℕ, subst, Option, None, List, [], ◌∷◌, length, not, true, false, ◌==◌, refl, ap, arith, Bool}
+use Rattle.std.specs.Prelude.{Result, Some, ◌&&◌, nat_le, nat_lt, bytes_eq, codes, if◌then◌else◌}
+use Rattle.tso_core.specs.declared.Event.{Event}
+use Rattle.tso_core.specs.declared.offer.StepRefusal.{StepRefusal}
+use Rattle.tso_core.specs.Systems.{Names}
+use Rattle.x86_machine.specs.Gives.{Gives}
 use Rattle.x86_table.specs.declared.instruction.Instr.{Instr}
 use Rattle.x86_steps.specs.declared.registers.Registers.{Registers}
 use Rattle.x86_steps.specs.declared.flags.Flags.{Flags}
@@ -14,9 +18,9 @@ use Rattle.x86_lang.specs.Assembly.{Assembly}
 use Rattle.x86_machine.specs.Target.{Thread, State, label_of, is_right, are_right}
 use Rattle.x86_machine.specs.X86Tso.{Outcome, loaded, tried, plain, if_empty}
 
-pub IfOk-map : {T E : Type 0} {P Q : T → Type 0} (r : Result T E) → ((x : T) → P x → Q x) → IfOk r P → IfOk r Q
-IfOk-map (Ok x) f h = f x h
-IfOk-map (Err e) f h = h
+-- what gives an outcome gives the same one under another name
+pub gives_of : (x y : Outcome) (old new : State) (r : Result (Option Event) StepRefusal) → x ≡ y → Gives x old new r → Gives y old new r
+gives_of x y old new r e h = subst (λ (z : Outcome). Gives z old new r) e h
 
 -- what an instruction does, from its parts
 pub plain_from : (a : Assembly) (m : State) (i : ℕ) (t : Thread) (o : Instr) (l p : ℕ) (r : Registers) (f : Flags) (x : Option Access) (w : ℕ) (d : Option After) → l ≡ label_of a o → r ≡ t.registers → f ≡ t.flags → p ≡ t.place → x ≡ access_of o l r → w ≡ loaded a m t x → d ≡ executed o l p r f w → tried a m i t o x d ≡ plain a m i t o

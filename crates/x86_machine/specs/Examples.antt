@@ -14,7 +14,7 @@ use Rattle.x86_table.specs.declared.instruction.Condition.TheVariants.{Equal}
 use Rattle.x86_table.specs.declared.instruction.Instr.{Instr}
 use Rattle.x86_table.specs.declared.instruction.Instr.TheVariants.{MoveNumber, MoveSymbol, Load, Store, StoreNumber, CombineNumber, ShiftByNumber, ExtendEax, Divide, JumpIf, Jump, Call, CallThrough, Return}
 use Rattle.x86_lang.specs.Assembly.{Assembly}
-use Rattle.x86_machine.specs.declared.machine.X86Now.{X86Now}
+use Rattle.x86_machine.specs.declared.now.X86Now.{X86Now}
 use Rattle.x86_machine.specs.Target.{State}
 use Rattle.x86_machine.specs.X86Tso.{Outcome, step, opening}
 

@@ -1,6 +1,5 @@
 -- What the fields of a machine of the code stand for.
 use Rattle.std.specs.Prelude.{ℕ, List, [], ◌∷◌, ◌++◌, map, Option, Some, None}
-use Rattle.tso_core.specs.declared.Event.{Event}
 use Rattle.x86_steps.specs.declared.access.Access.{Access}
 use Rattle.x86_steps.specs.declared.access.Kind.{Kind}
 use Rattle.x86_steps.specs.declared.access.Kind.TheVariants as kind
@@ -9,7 +8,7 @@ use Rattle.x86_memory.specs.Kept.{bytes_in}
 use Rattle.x86_machine.specs.declared.thread.Thread as code
 use Rattle.x86_machine.specs.declared.target.Target.{Target}
 use Rattle.x86_machine.specs.Target.{Thread, State}
-use Rattle.x86_machine.specs.X86Tso.{Outcome, write_of}
+use Rattle.x86_machine.specs.X86Tso.{write_of}
 
 abbrev pub thread_of : code.Thread → Thread
 thread_of t =
@@ -29,11 +28,6 @@ threads_of ts = map thread_of ts
 -- what the machine's state stands for
 abbrev pub state_of : Target → State
 state_of m = record { now = m.status; memory = bytes_in m.memory; heap = m.blocks.items; threads = threads_of m.threads.items }
-
--- what an outcome of the code stands for: the event that it shows, where it is enabled, and the state behind it
-abbrev pub outcome_of : Option (Option Event) → State → Outcome
-outcome_of None m = None
-outcome_of (Some e) m = Some (e, m)
 
 -- the parts of what an access stores: the thread's, and memory's
 abbrev pub thread_with : Thread → Access → Kind → Option ℕ → Thread

@@ -1,6 +1,11 @@
 pub mod Target
 pub mod X86Tso
 pub mod Examples
+pub mod Gives
+pub mod Choices
 pub mod Kept
+pub mod Machines
 pub mod Tables
 pub mod Programs
+pub mod Services
+pub mod Skips

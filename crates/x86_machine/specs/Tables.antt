@@ -4,7 +4,7 @@ use Rattle.tso_core.specs.Systems.{Places}
 use Rattle.x86_table.specs.declared.instruction.Instr.{Instr}
 use Rattle.x86_lang.specs.declared.assembly.CodeLine.{CodeLine}
 use Rattle.x86_lang.specs.declared.assembly.CodeLine.TheVariants as code
-use Rattle.x86_machine.specs.declared.program.Placed.{Placed}
+use Rattle.x86_machine.specs.declared.table.Placed.{Placed}
 use Rattle.x86_lang.specs.Assembly.{code_start}
 use Rattle.x86_machine.specs.Target.{name_of, address_or_zero}
 

@@ -15,7 +15,7 @@ use Rattle.x86_steps.specs.Accesses.{bytes_of}
 use Rattle.x86_memory.specs.declared.buffer.Write.{Write}
 use Rattle.x86_memory.specs.Bytes.{Bytes, view, word_at}
 use Rattle.x86_lang.specs.Assembly.{Assembly, code_start, data_start, heap_start}
-use Rattle.x86_machine.specs.declared.machine.X86Now.{X86Now}
+use Rattle.x86_machine.specs.declared.now.X86Now.{X86Now}
 
 -- a thread; the place is the address of its next instruction, and while it waits, that of its call of the outside
 pub record Thread : Type 0 where

@@ -20,8 +20,8 @@ use Rattle.x86_steps.specs.Flags.{unknown}
 use Rattle.x86_memory.specs.declared.buffer.Write.{Write}
 use Rattle.x86_memory.specs.Bytes.{Bytes, written, word_at}
 use Rattle.x86_lang.specs.Assembly.{Assembly, data_start}
-use Rattle.x86_machine.specs.declared.machine.X86Now.{X86Now}
-use Rattle.x86_machine.specs.declared.machine.X86Now.TheVariants as now
+use Rattle.x86_machine.specs.declared.now.X86Now.{X86Now}
+use Rattle.x86_machine.specs.declared.now.X86Now.TheVariants as now
 use Rattle.x86_machine.specs.Target.{Thread, State, stacks_start, is_right, are_right, is_on_stack, start_of, instruction_at, is_code, label_of, words_of, seen, words_from, block_at, block_size, is_block_allowed, with_block, without_block, is_stack_allowed}
 
 -- what a step shows and the state after it; None where it is not enabled
@@ -261,9 +261,13 @@ step a m (Drain i) = while_running m.now (drained_by m i (slice_get m.threads i)
 abbrev pub data_bytes : List ℕ → Bytes
 data_bytes bytes x = if nat_le data_start x then slice_index bytes (x - data_start) else 0
 
+-- the data in memory, and no thread yet
+abbrev pub unthreaded : Assembly → State
+unthreaded a = record { now = now.Running; memory = data_bytes a.bytes; heap = []; threads = [] }
+
 -- main alone, with an empty buffer
 abbrev pub opening : Assembly → Places → State
-opening a at = begun (record { now = now.Running; memory = data_bytes a.bytes; heap = []; threads = [] }) (base_of at (codes "main")) 0 stacks_start
+opening a at = begun (unthreaded a) (base_of at (codes "main")) 0 stacks_start
 
 abbrev pub status_of : X86Now → Status
 status_of now.Running = system.Running

@@ -2,7 +2,7 @@
 ghost use Rattle.std.specs.Prelude.{◌≡◌, [], ◌∷◌, ◌++◌, codes, Some, None};
 ghost use Rattle.tso_core.specs.declared.Step.TheVariants.{Run, Drain};
 ghost use Rattle.tso_core.specs.declared.Event.TheVariants.{Call, Exit};
-ghost use Rattle.x86_machine.specs.declared.machine.X86Now.TheVariants.{Running, Exited, Fault, NoHeap};
+ghost use Rattle.x86_machine.specs.declared.now.X86Now.TheVariants.{Running, Exited, Fault, NoHeap};
 ghost use Rattle.x86_machine.specs.Examples.{run_of, runs, seven, two_blocks, no_quotient, call_of_no_code, unknown_flag, store_buffering, to_prints, drained_between};
 
 /// In the store-buffering test both threads may read what was there before; a thread whose write has

@@ -4,10 +4,8 @@ ghost use Rattle.std.specs.List.{list_all};
 ghost use Rattle.x86_machine.specs.Target.{block_at, block_size, is_block_allowed, with_block, without_block, meets};
 ghost use Rattle.x86_machine.specs.Tables.{count_below};
 
-use crate::thread::{STACKS_START, lies_in, ranges_meet};
+use crate::address_map::{HEAP_START, STACKS_START, lies_in, ranges_meet};
 use tso_words::NoMemory;
-
-const HEAP_START: u32 = 0x3000_0000;
 
 /// The bytes of a block that was asked for.
 pub fn block_size(asked: u32) -> u32
@@ -42,7 +40,12 @@ pub fn is_block_allowed(blocks: &[(u32, u32)], base: u32, bytes: u32) -> bool
     ensures { result ≡ is_block_allowed blocks.now base bytes }
 {
     base % 16 == 0
-        && lies_in(HEAP_START, STACKS_START - HEAP_START, base, bytes)
+        && lies_in(
+            HEAP_START,
+            STACKS_START - HEAP_START,
+            u64::from(base),
+            bytes,
+        )
         && is_apart(blocks, base, bytes)
 }
 

@@ -1,13 +1,14 @@
 //! The state of the machine, and what a step changes of it.
-ghost use Rattle.std.specs.Prelude.{◌≡◌, ◌==◌, not, length, ◌<◌, ◌+◌, ◌^◌, ◌≤◌, Some, OnOk, OnErr, IsOk, slice_get, vec_len, true};
+ghost use Rattle.std.specs.Prelude.{◌≡◌, ◌==◌, not, length, ◌<◌, ◌+◌, ◌^◌, ◌%◌, ◌≤◌, Some, OnOk, OnErr, slice_get, vec_len, true};
 ghost use Rattle.x86_memory.specs.Bytes.{IsAligned, word_at};
 ghost use Rattle.x86_memory.specs.Kept.{bytes_in};
 ghost use Rattle.x86_machine.specs.Kept.{thread_of, threads_of, state_of, thread_with, memory_with, IsAlignedAccess};
 ghost use Rattle.x86_machine.specs.Target.{Thread as ThreadMeaning, seen, start_of};
-ghost use Rattle.x86_machine.specs.X86Tso.{with_thread, answered, waiting, thread_after, write_of, stored, stored_at, is_last_return};
+ghost use Rattle.x86_machine.specs.X86Tso.{with_thread, answered, begun, waiting, thread_after, write_of, stored, stored_at, is_last_return};
 
-use crate::machine::X86Now;
+use crate::now::X86Now;
 use crate::thread::{STACK_SIZE, Thread};
+use std::alloc::Global;
 use tso_words::NoMemory;
 use x86_memory::buffer::Write;
 use x86_memory::memory::Memory;
@@ -54,8 +55,7 @@ impl Thread {
     fn wait_for(&mut self, access: &Access, written: Option<u32>) -> Result<(), NoMemory>
         requires { IsAligned access.now.address access.now.size }
         ensures ok { OnOk result (thread_of self.new ≡ thread_with (thread_of self.old) access.now access.now.kind written) }
-        ensures err { OnErr result (thread_of self.new ≡ thread_of self.old) }
-        ensures room { 1 ≤ self.old.buffer.spare → IsOk result }
+        ensures err { OnErr result ((thread_of self.new ≡ thread_of self.old) × (access.now.kind ≡ Kind.Store)) }
     {
         match (access.kind, written) {
             (Kind::Store, Some(value)) => self.buffer.push(write_of(access, value)),
@@ -69,10 +69,11 @@ impl Thread {
     fn store(&mut self, after: &After, access: &Access) -> Result<(), NoMemory>
         requires { IsAligned access.now.address access.now.size }
         ensures ok { OnOk result (thread_of self.new ≡ thread_with (thread_after (thread_of self.old) after.now) access.now access.now.kind after.now.written) }
-        ensures room { 1 ≤ self.old.buffer.spare → IsOk result }
+        ensures err { OnErr result ((thread_of self.new ≡ thread_of self.old) × (access.now.kind ≡ Kind.Store)) }
     {
+        self.wait_for(access, after.written)?;
         self.go(after);
-        self.wait_for(access, after.written)
+        Ok(())
     }
 
     // A call is done, with a word in EAX.
@@ -131,7 +132,6 @@ fn store_locked(memory: &mut Memory, access: &Access, written: Option<u32>) -> R
     requires { IsAligned access.now.address access.now.size }
     ensures ok { OnOk result (bytes_in memory.new ≡ memory_with (bytes_in memory.old) access.now access.now.kind written) }
     ensures err { OnErr result (bytes_in memory.new ≡ bytes_in memory.old) }
-    ensures room { 1 ≤ memory.old.spare → IsOk result }
 {
     match (access.kind, written) {
         (Kind::Locked, Some(value)) => memory.put(write_of(access, value)),
@@ -173,11 +173,13 @@ impl Target {
         self.threads[thread].ended = true;
     }
 
-    /// A thread goes on behind an instruction, whose access stores.
+    // A thread goes on behind an instruction, whose access stores. Of a store and what is stored at
+    // once there is one, so that where memory lacks nothing has changed.
     fn store(&mut self, thread: usize, after: &After, access: &Access) -> Result<(), NoMemory>
         requires there { thread < vec_len self.old.threads }
         requires aligned { IsAligned access.now.address access.now.size }
-        ensures { (t : ThreadMeaning) → slice_get (state_of self.old).threads thread ≡ Some t → OnOk result (state_of self.new ≡ stored (state_of self.old) thread (thread_after t after.now) access.now access.now.kind after.now.written) }
+        ensures ok { (t : ThreadMeaning) → slice_get (state_of self.old).threads thread ≡ Some t → OnOk result (state_of self.new ≡ stored (state_of self.old) thread (thread_after t after.now) access.now access.now.kind after.now.written) }
+        ensures err { OnErr result (state_of self.new ≡ state_of self.old) }
     {
         store_locked(&mut self.memory, access, after.written)?;
         self.threads[thread].store(after, access)
@@ -192,7 +194,8 @@ impl Target {
     ) -> Result<(), NoMemory>
         requires there { thread < vec_len self.old.threads }
         requires aligned { IsAlignedAccess access.now }
-        ensures { (t : ThreadMeaning) → slice_get (state_of self.old).threads thread ≡ Some t → OnOk result (state_of self.new ≡ stored_at (state_of self.old) thread (thread_after t after.now) access.now after.now.written) }
+        ensures ok { (t : ThreadMeaning) → slice_get (state_of self.old).threads thread ≡ Some t → OnOk result (state_of self.new ≡ stored_at (state_of self.old) thread (thread_after t after.now) access.now after.now.written) }
+        ensures err { OnErr result (state_of self.new ≡ state_of self.old) }
     {
         match access {
             None => {
@@ -200,6 +203,28 @@ impl Target {
                 Ok(())
             }
             Some(access) => self.store(thread, after, access),
+        }
+    }
+
+    /// A further thread begins at a function, with its argument and its stack.
+    pub fn begin(
+        &mut self,
+        alloc: Global,
+        place: u32,
+        argument: u32,
+        stack: u32,
+    ) -> Result<(), NoMemory>
+        requires multiple { stack % 16 ≡ 0 }
+        requires fits { stack + 1048576 ≤ 2 ^ 32 }
+        ensures ok { OnOk result (state_of self.new ≡ begun (state_of self.old) place argument stack) }
+        ensures err { OnErr result (state_of self.new ≡ state_of self.old) }
+    {
+        self.threads.reserve(1)?;
+        let top = stack + (STACK_SIZE - 8);
+        self.memory.put_pair(top, 0, argument)?;
+        match self.threads.push(Thread::new(alloc, place, stack)) {
+            Ok(()) => Ok(()),
+            Err(_) => Err(NoMemory),
         }
     }
 

@@ -1,7 +1,8 @@
 //! The address map, and blocks of the heap.
 
+use crate::address_map::{STACKS_START, is_right, is_stack_allowed};
 use crate::heap::{add_block, block_at, block_size, is_block_allowed, remove_block};
-use crate::thread::{STACKS_START, Thread, is_right, is_stack_allowed};
+use crate::thread::Thread;
 use std::test::Fail;
 use x86_steps::access::Size;
 

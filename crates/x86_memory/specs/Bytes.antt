@@ -25,6 +25,10 @@ byte_of w x = if is_in w.address (bytes_of w.size) x then Some (w.value / 256 ^ 
 abbrev pub written : Bytes → Write → Bytes
 written m w x = unwrap_or (byte_of w x) (m x)
 
+-- the write of a word
+abbrev pub word_write : (address value : ℕ) → Write
+word_write address value = record { address = address; size = size.Word; value = value }
+
 -- what a thread sees: memory after all writes of its buffer, the oldest first
 abbrev pub view : Bytes → List Write → Bytes
 view m [] = m

@@ -2,7 +2,7 @@
 //! another. A look-up takes the same time whatever the memory holds.
 ghost use Rattle.std.specs.Prelude.{◌≡◌, ℕ, ◌+◌, ◌*◌, ◌/◌, ◌^◌, ◌%◌, ◌<◌, ◌≤◌, Some, None, length, IsOk, OnOk, OnErr, IsTrue, ◌↔◌, if◌then◌else◌, ◌==◌, slice_index_or, ◌-◌};
 ghost use Rattle.x86_memory.specs.Kept.{byte_at, bytes_in, IsOpen};
-ghost use Rattle.x86_memory.specs.Bytes.{IsSound, IsAligned, is_in, written, view, word_at, zeros};
+ghost use Rattle.x86_memory.specs.Bytes.{IsSound, IsAligned, is_in, written, view, word_at, word_write, zeros};
 
 use crate::buffer::Write;
 use std::alloc::Global;
@@ -150,7 +150,30 @@ impl Memory {
         self.put_bytes(write)
     }
 
+    /// Writes two words, the second one behind the first; both or, where memory lacks, none.
+    pub fn put_pair(&mut self, address: u32, first: u32, second: u32) -> Result<(), NoMemory>
+        requires multiple { address % 8 ≡ 0 }
+        requires fits { address + 8 ≤ 2 ^ 32 }
+        ensures ok { OnOk result (bytes_in self.new ≡ written (written (bytes_in self.old) (word_write address first)) (word_write (address + 4) second)) }
+        ensures err { OnErr result (bytes_in self.new ≡ bytes_in self.old) }
+    {
+        self.put_words(address, first, second)
+    }
+
     // The same, byte by byte.
+    fn put_words(&mut self, x: u32, first: u32, second: u32) -> Result<(), NoMemory>
+        requires multiple { x % 8 ≡ 0 }
+        requires fits { x + 8 ≤ 2 ^ 32 }
+        ensures ok { OnOk result ((y : ℕ) → byte_at self.new y ≡ written (written (bytes_in self.old) (word_write x first)) (word_write (x + 4) second) y) }
+        ensures err { OnErr result ((y : ℕ) → byte_at self.new y ≡ byte_at self.old y) }
+    {
+        self.open(x)?;
+        self.put_word(x, first);
+        self.put_word(x + 4, second);
+        Ok(())
+    }
+
+    // The same of one write.
     fn put_bytes(&mut self, write: Write) -> Result<(), NoMemory>
         requires { IsSound write }
         ensures ok { OnOk result ((y : ℕ) → byte_at self.new y ≡ written (bytes_in self.old) write y) }
@@ -185,7 +208,8 @@ impl Memory {
     fn put_word(&mut self, x: u32, value: u32)
         requires aligned { IsAligned x Size.Word }
         requires open { IsOpen self.old x }
-        ensures { (y : ℕ) → byte_at self.new y ≡ (if is_in x 4 y then value / 256 ^ (y - x) % 256 else byte_at self.old y) }
+        ensures written { (y : ℕ) → byte_at self.new y ≡ (if is_in x 4 y then value / 256 ^ (y - x) % 256 else byte_at self.old y) }
+        ensures table { self.new.table ≡ self.old.table }
     {
         self.set(x, (value % 256) as u8);
         self.set(x + 1, (value / 256 % 256) as u8);

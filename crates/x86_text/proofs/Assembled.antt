@@ -9,8 +9,8 @@ use Rattle.x86_table.specs.declared.operand.Operand.TheVariants as operand
 use Rattle.x86_table.specs.declared.instruction.Instr.{Instr}
 use Rattle.x86_table.specs.declared.instruction.Instr.TheVariants.{MoveNumber, MoveSymbol, Move, Load, Store, StoreNumber, StoreByte, StoreHalf, LoadExtended, ExtendByte, ExtendHalf, LoadAddress, Combine, CombineNumber, Negate, Complement, ShiftByNumber, ShiftByCl, ExtendEax, Divide, Compare, CompareNumber, Test, Set, JumpIf, Jump, Call, CallThrough, Return, Push, Pop, Fence, CompareExchange, ExchangeAdd, Exchange}
 use Rattle.x86_table.specs.Instruction.{operands_of}
-use Rattle.x86_lines.proofs.RenderedMemory.{IsPrintable, IsNameOrNone}
-use Rattle.x86_lines.proofs.RenderedInstr.{IsPrintableInstr}
+use Rattle.x86_print.proofs.RenderedMemory.{IsPrintable, IsNameOrNone}
+use Rattle.x86_print.proofs.RenderedInstr.{IsPrintableInstr}
 use Rattle.x86_lang.specs.declared.assembly.CodeLine.{CodeLine}
 use Rattle.x86_lang.specs.declared.assembly.CodeLine.TheVariants as code
 use Rattle.x86_lang.specs.declared.assembly.StaticLine.{StaticLine}

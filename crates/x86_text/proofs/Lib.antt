@@ -5,5 +5,15 @@ pub mod Said
 pub mod OneSaying
 pub mod LineRead
 pub mod CutLine
-pub mod Formed
 pub mod OneBad
+pub mod Placed
+pub mod Growing
+pub mod Ranged
+pub mod Used
+pub mod Goods
+pub mod Excluded
+pub mod Noted
+pub mod Told
+pub mod Judged
+pub mod Walked
+pub mod ReadBack

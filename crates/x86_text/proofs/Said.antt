@@ -5,11 +5,10 @@ use Rattle.std.specs.Fmt.{decimal}
 use Rattle.x86_table.specs.Names.{IsName}
 use Rattle.x86_table.specs.declared.instruction.Instr.{Instr}
 use Rattle.x86_lines.specs.Pieces.{pieces}
-use Rattle.x86_lines.specs.Numbers.{signed_text, word_text}
-use Rattle.x86_lines.specs.Printed.{instr_text}
+use Rattle.x86_print.specs.Printed.{instr_text, signed_text, word_text}
 use Rattle.x86_lines.proofs.Cuts.{Cuts, CutsAll, IsFresh, IsStop, cuts_after, cuts_then, cuts_stop, cuts_name, cuts_decimal, cuts_whole}
-use Rattle.x86_lines.proofs.Rendered.{count_is, signed_cut, word_cut}
-use Rattle.x86_lines.proofs.RenderedInstr.{IsPrintableInstr, instr_is}
+use Rattle.x86_print.proofs.Rendered.{count_is, signed_cut, word_cut}
+use Rattle.x86_print.proofs.RenderedInstr.{IsPrintableInstr, instr_is}
 use Rattle.x86_lang.specs.declared.assembly.StaticLine.{StaticLine}
 use Rattle.x86_lang.specs.declared.assembly.StaticLine.TheVariants as statics
 use Rattle.x86_lang.specs.Whole.{IsAlignment, FitsWidth}

@@ -5,3 +5,6 @@ pub mod Spoken
 pub mod Cutting
 pub mod Gathering
 pub mod Bad
+pub mod Naming
+pub mod Judging
+pub mod Reading

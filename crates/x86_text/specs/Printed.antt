@@ -1,8 +1,7 @@
 -- The printed form of an assembly: the pace, the externals, the exports, the data, the code, a line each. A tab stands before an instruction and before a directive of data.
 use Rattle.std.specs.Prelude.{ℕ, List, [], ◌∷◌, ◌++◌, codes, map}
 use Rattle.std.specs.Fmt.{decimal}
-use Rattle.x86_lines.specs.Numbers.{signed_text, word_text}
-use Rattle.x86_lines.specs.Printed.{instr_text}
+use Rattle.x86_print.specs.Printed.{instr_text, signed_text, word_text}
 use Rattle.x86_lang.specs.declared.assembly.CodeLine.{CodeLine}
 use Rattle.x86_lang.specs.declared.assembly.CodeLine.TheVariants as code
 use Rattle.x86_lang.specs.declared.assembly.StaticLine.{StaticLine}

@@ -1,12 +1,10 @@
-//! What the lines of a text say, one after the other, names aside.
+//! What the lines so far said, names aside.
 ghost use Rattle.std.specs.Prelude.{◌≡◌, IfOk};
-ghost use Rattle.x86_text.specs.Gathering.{AddsAs, IsFormOf, StepsAs, gathered_of};
+ghost use Rattle.x86_text.specs.Gathering.{AddsAs, gathered_of};
 ghost use Rattle.x86_text.specs.declared.line.Line.TheVariants as Line;
 ghost use Rattle.x86_text.specs.Text.{adds, opening};
 
-use crate::cutting::first_line;
 use crate::line::Line;
-use crate::line_reading::read_line;
 use sqlite_items::Items;
 use std::alloc::Global;
 use tso_words::{Name, NoMemory};
@@ -21,15 +19,18 @@ pub struct Gathering {
     parts: Parts,
 }
 
-/// The parts that the lines of a text say, or the first line that is out of place, counted from 1.
-#[derive(Drop)]
-pub enum Form {
-    Whole(Parts),
-    BadLine(u64),
+impl Gathering {
+    /// The parts that the lines said.
+    pub fn into_parts(self) -> Parts
+        ensures { result ≡ (gathered_of self).parts }
+    {
+        let Gathering { parts, .. } = self;
+        parts
+    }
 }
 
-// Before the first line.
-fn opening(alloc: Global) -> Gathering
+/// Before the first line.
+pub fn opening(alloc: Global) -> Gathering
     ensures { gathered_of result ≡ opening }
 {
     Gathering {
@@ -91,8 +92,8 @@ fn add_op(gathering: &mut Gathering, op: Instr) -> Result<bool, NoMemory>
     Ok(true)
 }
 
-// Adds what a line says, where it may stand there.
-fn add_line(gathering: &mut Gathering, line: Line) -> Result<bool, NoMemory>
+/// Adds what a line says, where it may stand there.
+pub fn add_line(gathering: &mut Gathering, line: Line) -> Result<bool, NoMemory>
     ensures { IfOk result (λ stands. AddsAs stands (adds (gathered_of gathering.old) line) (gathered_of gathering.new)) }
 {
     match line {
@@ -118,33 +119,4 @@ fn add_line(gathering: &mut Gathering, line: Line) -> Result<bool, NoMemory>
         Line::Datum(datum) => add_datum(gathering, datum),
         Line::Op(op) => add_op(gathering, op),
     }
-}
-
-// Adds a line, where it says something that may stand there.
-fn step(alloc: Global, gathering: &mut Gathering, bytes: &[u8]) -> Result<bool, NoMemory>
-    ensures { IfOk result (λ stands. StepsAs stands (gathered_of gathering.old) bytes.now (gathered_of gathering.new)) }
-{
-    let said = read_line(alloc, bytes)?;
-    match said {
-        None => Ok(false),
-        Some(line) => add_line(gathering, line),
-    }
-}
-
-/// What the lines of a text say, names aside.
-pub fn read_form(alloc: Global, text: &[u8]) -> Result<Form, NoMemory>
-    ensures { IfOk result (λ form. IsFormOf text.now form) }
-{
-    let mut gathering = opening(alloc);
-    let mut rest = text;
-    let mut count: u64 = 0;
-    while let Some(first) = first_line(rest) {
-        if !step(alloc, &mut gathering, first.line)? {
-            return Ok(Form::BadLine(count + 1));
-        }
-        count += 1;
-        rest = first.rest;
-    }
-    let Gathering { parts, .. } = gathering;
-    Ok(Form::Whole(parts))
 }

@@ -13,3 +13,8 @@ pub fn a_text_has_one_assembly()
 pub fn a_text_has_one_first_bad_line()
     ensures { (text : List ℕ) (n m : ℕ) → IsBadText text n → IsBadText text m → n ≡ m }
 {}
+
+/// A text of an assembly has no bad line.
+pub fn a_text_of_an_assembly_has_no_bad_line()
+    ensures { (text : List ℕ) (a : Parts) (n : ℕ) → AsmOf text a → IsBadText text n → ⊥ }
+{}

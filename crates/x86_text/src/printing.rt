@@ -18,7 +18,7 @@ ghost use Rattle.x86_text.specs.Printed.{
 use std::alloc::Global;
 use tso_words::{Name, NoMemory};
 use x86_lang::{Asm, CodeLine, Parts, StaticLine};
-use x86_lines::printing::{put, put_decimal, put_instr, put_signed};
+use x86_print::printing::{put, put_decimal, put_instr, put_signed};
 
 // Adds a label.
 fn put_label(out: &mut Vec<u8>, name: &Name) -> Result<(), NoMemory>

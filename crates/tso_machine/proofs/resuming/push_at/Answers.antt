@@ -1,10 +1,12 @@
 -- The thread and the buffer at the place are those that were changed.
-use Rattle.std.proofs.Common.{◌≡◌, ℕ, List, [], ◌∷◌, ◌++◌, Some, Ok, Err, Result, OnOk, OnErr, sym, ap, ◌∙◌}
+use Rattle.std.proofs.Common.{◌≡◌, ℕ, true, List, [], ◌∷◌, ◌++◌, Some, Ok, Err, Result, OnOk, OnErr, sym, ap, subst, ◌∙◌}
 use Rattle.std.specs.Prelude.{map, slice_get, slice_set}
 use Rattle.std.proofs.lemmas.Option.{slice_get-get_or}
 use Rattle.tso_memory.specs.declared.buffer.Item.{Item}
 use Rattle.tso_memory.specs.Buffer.{BufferMeaning}
 use Rattle.tso_core.specs.Shared.{items_or_none}
+use Rattle.tso_machine.specs.Known.{are_known}
+use Rattle.tso_machine.proofs.KnownItems.{known_push}
 use Rattle.tso_machine.proofs.MapLists.{map_set, get_map, same_map, set_resumed}
 use Rattle.tso_machine.proofs.resuming.push_at.Goals as goal
 
@@ -49,3 +51,18 @@ returns-clause-same_buffers g c =
     let b = c.index_mut-buffer.result.now in
     let found : slice_get bs c.args.i ≡ Some b = slice_get-get_or bs c.args.i b c.requires.buffer ∙ ap Some (sym c.index_mut-buffer.ensures.value) in
     on_err c.resume_pushing.result (λ h. same_map (λ x. x.items) bs c.args.i b c.resume_pushing.new.buffer found h) c.resume_pushing.ensures.same_buffer
+
+either : {A E : Type 0} {P Q R : Type 0} (r : Result A E) → (P → R) → (Q → R) → OnOk r P → OnErr r Q → R
+either (Ok x) f g p q = f p
+either (Err e) f g p q = g q
+
+pub returns-clause-known : goal.returns-clause-known
+returns-clause-known g c = λ os ks h.
+    let bs = c.args.buffers.now.items in
+    let b = c.index_mut-buffer.result.now in
+    let n = c.resume_pushing.new.buffer in
+    let found : slice_get bs c.args.i ≡ Some b = slice_get-get_or bs c.args.i b c.requires.buffer ∙ ap Some (sym c.index_mut-buffer.ensures.value) in
+    either c.resume_pushing.result
+    (λ e. subst (λ z. are_known os z ks ≡ true) (sym (with_item bs c.args.i b n c.args.item found e)) (known_push os (map (λ x. x.items) bs) ks c.args.i c.args.item h))
+    (λ e. subst (λ z. are_known os z ks ≡ true) (sym (same_map (λ x. x.items) bs c.args.i b n found e)) h)
+    c.resume_pushing.ensures.pushed c.resume_pushing.ensures.same_buffer

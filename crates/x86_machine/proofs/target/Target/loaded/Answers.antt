@@ -6,5 +6,5 @@ use Rattle.x86_machine.proofs.target.Target.loaded.Goals as goal
 
 pub returns-then-is_right : goal.returns-then-is_right
 returns-then-is_right c = λ t e.
-    let right : is_right_among (length (bytes_from data_start c.args.program.now.asm.now.statics)) (threads_of c.args.self.now.threads.items) c.in-Some.x.size c.in-Some.x.address ≡ true = rw (← c.requires.program.bytes, ← c.deref.ensures.value) (sym c.is_right.ensures ∙ c.if-is_right.true) in
+    let right : is_right_among (length (bytes_from data_start c.args.program.now.statics)) (threads_of c.args.self.now.threads.items) c.in-Some.x.size c.in-Some.x.address ≡ true = rw (← c.bytes.ensures.value, ← c.deref.ensures.value, ← c.from.ensures) (sym c.is_right.ensures.value ∙ c.if-is_right.true) in
     rw (c.in-Some.is, right) (c.load.ensures t e)

@@ -2,7 +2,7 @@ use Rattle.std.proofs.Common.{◌≡◌, ◌∙◌, ◌<◌, ap, arith, length}
 use Rattle.x86_lang.specs.Assembly.{assembly_of}
 use Rattle.x86_machine.specs.Kept.{state_of, thread_of}
 use Rattle.x86_machine.specs.Target.{Thread}
-use Rattle.x86_machine.proofs.Outcomes.{IfOk-map, plain_from}
+use Rattle.x86_machine.proofs.Outcomes.{gives_of, plain_from}
 use Rattle.x86_machine.proofs.States.{thread_here, thread_is}
 use Rattle.x86_machine.proofs.target.Target.plain.Goals as goal
 
@@ -14,7 +14,7 @@ returns c = λ t e.
     let r = ap (λ z. z.0) parts ∙ ap (λ (u : Thread). u.registers) here in
     let f = ap (λ z. z.1) parts ∙ ap (λ (u : Thread). u.flags) here in
     let p = ap (λ z. z.2) parts ∙ ap (λ (u : Thread). u.place) here in
-    IfOk-map c.tried.result (λ x q. q ∙ plain_from (assembly_of c.args.program.now.asm.now) (state_of c.args.self.now) c.args.thread t c.args.instr.now c.args.label _ _ _ _ _ _ c.requires.label r f p c.access_of-access.ensures (c.loaded-loaded.ensures t e) c.executed-after.ensures) (c.tried.ensures t e)
+    gives_of _ _ _ _ c.tried.result (plain_from (assembly_of c.args.program.now) (state_of c.args.self.now) c.args.thread t c.args.instr.now c.args.label _ _ _ _ _ _ c.requires.label r f p c.access_of-access.ensures (c.loaded-loaded.ensures t e) c.executed-after.ensures) (c.tried.ensures t e)
 
 pub executed-after-requires : goal.executed-after-requires
 executed-after-requires c =

@@ -1,7 +1,6 @@
 use Rattle.std.proofs.Common.{◌≡◌, ◌∙◌, ◌<◌, sym, ap, arith, length, rules, true}
 use Rattle.x86_machine.specs.Kept.{thread_of}
 use Rattle.x86_machine.specs.Target.{Thread, is_on_stack}
-use Rattle.x86_machine.proofs.Outcomes.{IfOk-map}
 use Rattle.x86_machine.proofs.States.{thread_here}
 use Rattle.x86_machine.proofs.target.Target.tried_behind_access.Goals as goal
 
@@ -13,4 +12,4 @@ returns c = λ t e.
     let stack : is_on_stack t c.args.after.now.registers.esp ≡ true = ap (λ (u : Thread). is_on_stack u c.args.after.now.registers.esp) (sym here) ∙ (sym c.is_on_stack.ensures ∙ on) in
     let access : c.is_access_right.result ≡ true = search rules in
     let right = sym c.is_access_right.ensures.right ∙ access in
-    IfOk-map c.went.result (λ x q. rw (stack, right) q) (c.went.ensures t e)
+    rw (stack, right) (c.went.ensures t e)

@@ -1,0 +1,3 @@
+pub mod Bottom
+pub mod MoreNames
+pub mod OtherFrames

@@ -1,0 +1,5 @@
+use Rattle.c_frames.proofs.OtherFrames.{no_items}
+use Rattle.c_frames.proofs.declarations.declared_in.Goals as goal
+
+pub returns-in_default : goal.returns-in_default
+returns-in_default c = λ n. no_items _ c.args.frame n _ _ c.in_default.not-Block c.in_default.not-Function c.in_default.not-Group c.in_default.not-ForHead

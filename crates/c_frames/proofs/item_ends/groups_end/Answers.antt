@@ -1,0 +1,4 @@
+use Rattle.c_frames.proofs.item_ends.groups_end.Goals as goal
+
+pub returns-in-Some : goal.returns-in-Some
+returns-in-Some c = rw c.in-Some.ensures.taken.1 (c.groups_end_in.ensures c.in-Some.ensures.taken.0)

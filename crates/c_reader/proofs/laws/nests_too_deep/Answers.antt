@@ -1,8 +1,0 @@
-use Rattle.c_reader.proofs.Places.{deep_place, shallow_tokens}
-use Rattle.c_reader.proofs.laws.nests_too_deep.Goals as goal
-
-pub returns : goal.returns
-returns c = record {
-  deep = deep_place;
-  shallow = shallow_tokens;
-}

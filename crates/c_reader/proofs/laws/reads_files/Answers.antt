@@ -1,9 +1,0 @@
-use Rattle.c_reader.proofs.Places.{whole_file, refused_place, unfinished_place}
-use Rattle.c_reader.proofs.laws.reads_files.Goals as goal
-
-pub returns : goal.returns
-returns c = record {
-  whole = whole_file;
-  refused = refused_place;
-  unfinished = unfinished_place;
-}

@@ -1,0 +1,15 @@
+pub mod Erase
+pub mod Tests
+pub mod Simulation
+pub mod Feed
+pub mod Built
+pub mod Heights
+pub mod Marks
+pub mod Depths
+pub mod Contexts
+pub mod States
+pub mod Places
+pub mod Exact
+pub mod FixedWords
+pub mod FileTokens
+pub mod OneAnswer

@@ -1,0 +1,16 @@
+pub mod Written
+pub mod Lists
+pub mod Fixed
+pub mod Numerals
+pub mod Leaves
+pub mod Prints
+pub mod Wrapped
+pub mod Ends
+pub mod Expressions
+pub mod Items
+pub mod Statements
+pub mod Lexing
+pub mod OneList
+pub mod Shallow
+pub mod Trips
+pub mod Texts

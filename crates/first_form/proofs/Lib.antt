@@ -1,0 +1,10 @@
+pub mod Digits
+pub mod Lexed
+pub mod Gaps
+pub mod Listed
+pub mod Told
+pub mod Ten
+pub mod Tree
+pub mod HasTree
+pub mod Number
+pub mod Telling

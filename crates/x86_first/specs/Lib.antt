@@ -1,3 +1,0 @@
-pub mod Assembly
-pub mod MachineState
-pub mod X86Tso

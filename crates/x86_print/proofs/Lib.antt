@@ -1,0 +1,3 @@
+pub mod Rendered
+pub mod RenderedInstr
+pub mod RenderedMemory
