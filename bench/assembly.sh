@@ -1,19 +1,11 @@
 #!/bin/sh
 # Times `read_asm` and `print_asm` of x86_text: a text of 40 kB, one of 4 MB of the same lines, one of a million
 # lines with a name each, and one whose last line alone is bad.
-# It makes a program in a folder of its own, builds it by `rt run`, and removes the folder.
 # Usage: sh bench/assembly.sh        (KEEP=1 leaves the folder and prints its name)
 set -eu
-top=$(cd "$(dirname "$0")/.." && pwd)
-work=$(mktemp -d)
-[ "${KEEP:-0}" = 1 ] && echo "folder: $work" || trap 'rm -rf "$work"' EXIT
-mkdir -p "$work/crates/assembly_times/src" "$work/crates/assembly_times/data"
-for crate in tso_words tso_memory tso_core x86_table x86_lines x86_print x86_lang x86_text; do
-    cp -r "$top/crates/$crate" "$work/crates/"
-    grep "^$crate:" "$top/crates.txt" >> "$work/crates.txt"
-done
-echo "assembly_times: x86_text tso_words" >> "$work/crates.txt"
-cat > "$work/crates/assembly_times/src/main.rt" <<'CODE'
+. "$(dirname "$0")/throwaway.sh"
+begin assembly_times x86_text tso_words
+cat > "$program/src/main.rt" <<'CODE'
 #![tactic(auto)]
 
 use std::rt::Files;
@@ -51,7 +43,7 @@ fn main(rt: HostRuntime) -> io::Result<()> {
     time(&rt, "bad.s")
 }
 CODE
-python3 - "$work/crates/assembly_times/data" <<'CODE'
+python3 - "$program/data" <<'CODE'
 import os, sys
 folder = sys.argv[1]
 lines = b"""\tmovl 8(%ebp), %eax
@@ -70,9 +62,4 @@ put("large.s", head + lines * (4000000 // len(lines)))
 put("names.s", b"main:\n" + b"".join(b"L%d:\n\tjmp L%d\n" % (i, 499999 - i) for i in range(500000)))
 put("bad.s", head + lines * (4000000 // len(lines)) + b"\tjmp out\n")
 CODE
-cd "$work/crates/assembly_times"
-# The first run, in a folder without the files, ends with an error: it only builds.
-rt run assembly_times > "$work/log" 2>&1 || true
-[ -x out/assembly_times ] || { cat "$work/log"; exit 1; }
-cd data
-../out/assembly_times
+run_program

@@ -1,19 +1,10 @@
 #!/bin/sh
 # Times `tokens` of c_tokens on files of ordinary C: 40 kB and 4 MB of the same lines, and 4 MB of one byte.
-# It makes a program in a folder of its own, builds it by `rt run`, and removes the folder.
 # Usage: sh bench/tokens.sh        (KEEP=1 leaves the folder and prints its name)
 set -eu
-top=$(cd "$(dirname "$0")/.." && pwd)
-work=$(mktemp -d)
-[ "${KEEP:-0}" = 1 ] && echo "folder: $work" || trap 'rm -rf "$work"' EXIT
-mkdir -p "$work/crates/token_times/src" "$work/crates/token_times/data"
-cp -r "$top/crates/tso_words" "$top/crates/c_tokens" "$work/crates/"
-cat > "$work/crates.txt" <<'LIST'
-tso_words: thiserror
-c_tokens: tso_words
-token_times: c_tokens tso_words
-LIST
-cat > "$work/crates/token_times/src/main.rt" <<'CODE'
+. "$(dirname "$0")/throwaway.sh"
+begin token_times c_tokens tso_words
+cat > "$program/src/main.rt" <<'CODE'
 #![tactic(auto)]
 
 use c_tokens::tokens;
@@ -46,7 +37,7 @@ fn main(rt: HostRuntime) -> io::Result<()> {
     time(&rt, "words.c")
 }
 CODE
-python3 - "$work/crates/token_times/data" <<'CODE'
+python3 - "$program/data" <<'CODE'
 import os, sys
 folder = sys.argv[1]
 lines = b"""/* one line of text that is a comment */
@@ -64,9 +55,4 @@ put("comment.c", b"/*" + b"*" * 4000000)
 put("parens.c", b"(" * 4000000)
 put("words.c", b"while (x) {\n" * 330000)
 CODE
-cd "$work/crates/token_times"
-# The first run, in a folder without the files, ends with an error: it only builds.
-rt run token_times > "$work/log" 2>&1 || true
-[ -x out/token_times ] || { cat "$work/log"; exit 1; }
-cd data
-../out/token_times
+run_program

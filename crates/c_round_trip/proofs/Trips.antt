@@ -2,6 +2,7 @@
 use Rattle.std.proofs.Common.{◌≡◌, ℕ, ◌⊎◌, List, [], None, length, suc, refl, sym, ◌∙◌, ap, subst, inl, inr, ◌≤◌, arith}
 use Rattle.c_grammar.specs.Tokens as k
 use Rattle.c_grammar.proofs.Exact.{one_file}
+use Rattle.c_reading.specs.FileAnswers.{IsFileAnswer}
 use Rattle.c_reading.specs.FileTokens.{AreFileTokens}
 use Rattle.c_grammar.specs.Derivations.{File}
 use Rattle.c_grammar.specs.Yield.{file_yield}
@@ -11,7 +12,7 @@ use Rattle.c_tree.specs.Trees.{FileTree}
 use Rattle.c_tree.specs.Statements.{file_text}
 use Rattle.c_tree.specs.Reading.{file_tree}
 use Rattle.c_round_trip.specs.Placeless.{placeless}
-use Rattle.c_round_trip.specs.RoundTrip.{AllWritten, IsFileTree, ReadsAs, IsReading, IsSameTree, opens}
+use Rattle.c_round_trip.specs.RoundTrip.{AllWritten, IsFileTree, ReadsAs, IsSameTree, opens}
 use Rattle.c_reading.specs.Answers.{Answer, IsShallow, IsAnswer, tree, syntax_fault, too_deep}
 use Rattle.c_round_trip.proofs.Items.{after_file, externals_text}
 use Rattle.c_round_trip.proofs.Lexing.{Lexed, lex_whole}
@@ -59,17 +60,17 @@ pub reads_as : (x : FileTree) → IsFileTree x → ReadsAs (file_text x) x
 reads_as x h = let a = trip x h in record { scanned = a.lexed.list; exact = a.lexed.exact; tokens = a.tokens; each = a.lexed.each; file = a.now; spelled = a.spelled; same = a.same }
 
 -- what was read is a file's tree
-abbrev pub read_tree : (bytes : List ℕ) (x : FileTree) → IsReading bytes (tree x) → IsFileTree x
+abbrev pub read_tree : (bytes : List ℕ) (x : FileTree) → IsFileAnswer bytes (tree x) → IsFileTree x
 read_tree bytes x r =
-    record { file = r.2.0; tokens = r.0; spelled = r.2.1; written = all_written bytes r.0 r.1; tree = ap placeless r.2.2 }
+    record { file = r.answers.0; tokens = r.tokens; spelled = r.answers.1; written = all_written bytes r.tokens r.are; tree = ap placeless r.answers.2 }
 
-pub reads_again : (bytes : List ℕ) (x : FileTree) → IsReading bytes (tree x) → (y : FileTree) × IsReading (file_text x) (tree y) × (placeless y ≡ placeless x)
+pub reads_again : (bytes : List ℕ) (x : FileTree) → IsFileAnswer bytes (tree x) → (y : FileTree) × IsFileAnswer (file_text x) (tree y) × (placeless y ≡ placeless x)
 reads_again bytes x r =
     let a = trip x (read_tree bytes x r) in
-    let low = low_nests r.2.0 r.0 r.2.1 r.2.3 in
+    let low = low_nests r.answers.0 r.tokens r.answers.1 r.answers.3 in
     let shallow : IsShallow a.tokens (length a.tokens) = λ m le deep. shallow_by a.now a.tokens a.spelled (a.nests low) m deep in (
       file_tree a.now,
-      (a.tokens, file_tokens (file_text x) a.tokens a.lexed, (a.now, a.spelled, refl, shallow)),
+      record { tokens = a.tokens; are = file_tokens (file_text x) a.tokens a.lexed; answers = (a.now, a.spelled, refl, shallow) },
       a.same,
     )
 
@@ -85,11 +86,11 @@ answered x f ts size h same (tree y) r = inl (y, refl, ap placeless r.2 ∙ same
 answered x f ts size h same (syntax_fault p) r = absurd (r.1.no_file f h)
 answered x f ts size h same (too_deep p) r = inr (p, refl)
 
-pub reads_or_deep : (x : FileTree) → IsFileTree x → (a : Answer) → IsReading (file_text x) a → IsSameTree x a ⊎ ((p : ℕ) × (a ≡ too_deep p))
+pub reads_or_deep : (x : FileTree) → IsFileTree x → (a : Answer) → IsFileAnswer (file_text x) a → IsSameTree x a ⊎ ((p : ℕ) × (a ≡ too_deep p))
 reads_or_deep x h a r =
     let t = trip x h in
-    let same : t.tokens ≡ r.0 = one_tokens (file_text x) t.tokens r.0 (file_tokens (file_text x) t.tokens t.lexed) r.1 in
-    answered x t.now r.0 (length (file_text x)) (subst (λ us. Spells t.now us) same t.spelled) t.same a r.2
+    let same : t.tokens ≡ r.tokens = one_tokens (file_text x) t.tokens r.tokens (file_tokens (file_text x) t.tokens t.lexed) r.are in
+    answered x t.now r.tokens (length (file_text x)) (subst (λ us. Spells t.now us) same t.spelled) t.same a r.answers
 
 shallow_answer : (x : FileTree) (f : File) (ts : List k.Token) (size : ℕ) → Spells f ts → Low limit (file_nest f []) → (a : Answer) → IsAnswer ts size a → TreeOrDeep x a
     → IsSameTree x a
@@ -99,12 +100,12 @@ shallow_answer x f ts size h l a r (inr d) =
     absurd (shallow_by f ts h l (suc deep.0) deep.1.deep)
 
 -- and nothing else is read
-pub reads_only : (bytes : List ℕ) (x : FileTree) → IsReading bytes (tree x) → (a : Answer) → IsReading (file_text x) a → IsSameTree x a
+pub reads_only : (bytes : List ℕ) (x : FileTree) → IsFileAnswer bytes (tree x) → (a : Answer) → IsFileAnswer (file_text x) a → IsSameTree x a
 reads_only bytes x r a s =
     let t = trip x (read_tree bytes x r) in
-    let low = low_nests r.2.0 r.0 r.2.1 r.2.3 in
-    let same : t.tokens ≡ s.0 = one_tokens (file_text x) t.tokens s.0 (file_tokens (file_text x) t.tokens t.lexed) s.1 in
-    shallow_answer x t.now s.0 (length (file_text x)) (subst (λ us. Spells t.now us) same t.spelled) (t.nests low) a s.2 (reads_or_deep x (read_tree bytes x r) a s)
+    let low = low_nests r.answers.0 r.tokens r.answers.1 r.answers.3 in
+    let same : t.tokens ≡ s.tokens = one_tokens (file_text x) t.tokens s.tokens (file_tokens (file_text x) t.tokens t.lexed) s.are in
+    shallow_answer x t.now s.tokens (length (file_text x)) (subst (λ us. Spells t.now us) same t.spelled) (t.nests low) a s.answers (reads_or_deep x (read_tree bytes x r) a s)
 
 -- what a text reads as is a file's tree
 abbrev text_tree : (text : List ℕ) (x : FileTree) → ReadsAs text x → IsFileTree x

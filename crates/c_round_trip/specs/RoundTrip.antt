@@ -1,5 +1,5 @@
--- Which trees files have, what it is to read as a tree, places aside, and what the reader answers for the bytes of a file.
-use Rattle.std.specs.Prelude.{◌≡◌, ℕ, suc, List, [], ◌∷◌, None, length}
+-- Which trees files have, and what it is to read as a tree, places aside.
+use Rattle.std.specs.Prelude.{◌≡◌, ℕ, suc, List, [], ◌∷◌, None}
 use Rattle.c_tokens.specs.declared.token.TokenKind.{TokenKind}
 use Rattle.c_tokens.specs.declared.token.Token as scanned
 use Rattle.c_tokens.specs.Tokens.{Tokens}
@@ -10,8 +10,7 @@ use Rattle.c_grammar.specs.Spelling.{Spells}
 use Rattle.c_tree.specs.Trees.{FileTree}
 use Rattle.c_tree.specs.Reading.{file_tree}
 use Rattle.c_reading.specs.Words.{IsKindOf, AreTokensOf}
-use Rattle.c_reading.specs.FileTokens.{AreFileTokens}
-use Rattle.c_reading.specs.Answers.{Answer, tree, IsAnswer}
+use Rattle.c_reading.specs.Answers.{Answer, tree}
 use Rattle.c_round_trip.specs.Placeless.{placeless}
 
 -- some word is this token
@@ -39,10 +38,6 @@ pub record ReadsAs (text : List ℕ) (x : FileTree) : Type 0 where
   pub file : File
   pub spelled : Spells file tokens
   pub same : placeless (file_tree file) ≡ placeless x
-
--- what the reader answers for the bytes of a file
-abbrev pub IsReading : List ℕ → Answer → Type 0
-IsReading bytes a = (ks : List k.Token) × AreFileTokens bytes ks × IsAnswer ks (length bytes) a
 
 -- the answer is the tree, places aside
 abbrev pub IsSameTree : FileTree → Answer → Type 0

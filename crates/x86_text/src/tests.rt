@@ -28,7 +28,7 @@ fn first_bad_with(alloc: Global, before: &[u8], line: &[u8], behind: &[u8]) -> R
 #[test]
 fn texts_have_their_first_bad_line(rt: HostRuntime) -> Result<(), Fail> {
     let alloc = rt.alloc();
-    let rows: [(&[u8], u64); 23] = [
+    let rows: [(&[u8], u64); 25] = [
         (b"", 1),
         (b"\n", 2),
         (b"main:", 0),
@@ -60,6 +60,8 @@ fn texts_have_their_first_bad_line(rt: HostRuntime) -> Result<(), Fail> {
             0,
         ),
         (b".data\n.zero 268435456\n.text\nmain:\n", 0),
+        (b".data\n.zero 268435457\n.text\nmain:\n", 2),
+        (b".data\n.zero 0x10000000\n.zero 0\n.text\nmain:\n", 0),
         (
             b".data\n.zero 268435456\n.balign 16\n.byte 0\n.text\nmain:\n",
             4,
@@ -166,7 +168,13 @@ fn lines_among_code_are_bad(rt: HostRuntime) -> Result<(), Fail> {
 fn lines_among_data_are_bad(rt: HostRuntime) -> Result<(), Fail> {
     let alloc = rt.alloc();
     let before = b".text\nmain:\n\tret\n.data\nd:\n\t.long 7\n";
-    let rows: [&[u8]; 14] = [
+    let rows: [&[u8]; 18] = [
+        b".zero -1",
+        b".zero -2147483648",
+        b".zero -2147483649",
+        b".zero 4294967295",
+        b".zero 4294967296",
+        b".zero 268435453",
         b".byte 256",
         b".byte -129",
         b".short 65536",
@@ -175,8 +183,6 @@ fn lines_among_data_are_bad(rt: HostRuntime) -> Result<(), Fail> {
         b".long x",
         b".balign 8",
         b".balign 0",
-        b".zero -2147483649",
-        b".zero 268435453",
         b".byte",
         b".byte 1, 2",
         b"main:",
@@ -185,6 +191,51 @@ fn lines_among_data_are_bad(rt: HostRuntime) -> Result<(), Fail> {
     assert!(rt; first_bad_with(alloc, before, b".zero 268435452", b"\n")? == 0);
     for line in rows {
         assert!(rt; first_bad_with(alloc, before, line, b"\n")? == 7);
+    }
+    Ok(())
+}
+
+// The printed form of a text whose one line of code is this one; nothing where it is bad.
+fn printed_with(alloc: Global, line: &[u8]) -> Result<Vec<u8>, Fail> {
+    let mut text = Vec::from_slice(alloc, b".data\nd:\n.text\nmain:\n")?;
+    text.extend_from_slice(line)?;
+    match read_asm(alloc, text.as_slice()) {
+        Ok(asm) => Ok(print_asm(alloc, &asm)?),
+        Err(ReadAsmRefusal::BadText { line: 5 }) => Ok(Vec::new(alloc)),
+        Err(refusal) => Err(Fail::from(refusal)),
+    }
+}
+
+#[test]
+fn displacements_at_both_ends(rt: HostRuntime) -> Result<(), Fail> {
+    let alloc = rt.alloc();
+    let rows: [(&[u8], &[u8]); 16] = [
+        (b"movl -2147483648(%eax), %eax", b"-2147483648(%eax), %eax"),
+        (b"movl -2147483649(%eax), %eax", b""),
+        (b"movl 2147483648(%eax), %eax", b"-2147483648(%eax), %eax"),
+        (b"movl 2147483647(%eax), %eax", b"2147483647(%eax), %eax"),
+        (b"movl 4294967295(%eax), %eax", b"-1(%eax), %eax"),
+        (b"movl 4294967296(%eax), %eax", b""),
+        (b"movl 0xffffffff(,%eax,8), %eax", b"-1(,%eax,8), %eax"),
+        (b"movl 0x100000000(,%eax,8), %eax", b""),
+        (b"movl 4294967295, %eax", b"-1, %eax"),
+        (b"movl 4294967296, %eax", b""),
+        (b"movl d+4294967295(%eax), %eax", b"d+-1(%eax), %eax"),
+        (b"movl d+4294967296(%eax), %eax", b""),
+        (b"movl d+-2147483648, %eax", b"d+-2147483648, %eax"),
+        (b"movl d+-2147483649, %eax", b""),
+        (b"movl $d+-2147483648, %eax", b"$d+-2147483648, %eax"),
+        (b"movl $d+-2147483649, %eax", b""),
+    ];
+    for (line, operands) in rows {
+        let printed = printed_with(alloc, line)?;
+        let mut wanted = Vec::new(alloc);
+        if !operands.is_empty() {
+            wanted.extend_from_slice(b"# pace 0\n.data\nd:\n.text\nmain:\n\tmovl ")?;
+            wanted.extend_from_slice(operands)?;
+            wanted.push(b'\n')?;
+        }
+        assert!(rt; printed.as_slice() == wanted.as_slice());
     }
     Ok(())
 }
