@@ -1,8 +1,8 @@
 #!/bin/sh
-# Times `tsoc target`: steps per second of four loops at 1, 2, 5 and 10 million steps, and of the third on this
+# Times `tsoc target`: steps per second of four loops at 1, 2, 5 and 10 million steps, and of the second on this
 # processor under `valgrind --tool=none` where it, `as` and `ld` are there. A step is a run of a thread or a drain.
 # The loops: registers alone; a load, an addition and a store; calls of a function; the same calls in a text of 64
-# externals, over whose names each call walks.
+# externals.
 # Usage: sh bench/replay.sh        (KEEP=1 leaves the folder and prints its name)
 set -eu
 top=$(cd "$(dirname "$0")/.." && pwd)
