@@ -1,6 +1,6 @@
 -- The default placement is proper.
-use Rattle.std.proofs.Common.{◌≡◌, ◌≢◌, ℕ, zero, suc, ◌+◌, ◌-◌, ◌*◌, ◌%◌, ◌<◌, ◌≤◌, Bool, true, false, cond, List, [], ◌∷◌, ◌++◌, length, map, sum_by, Option, Some, None, refl, sym, ap, ◌∙◌, subst, arith, inl, inr, ◌⊎◌, find, nat_eq, slice_index_or, Decides, length-append}
-use Rattle.std.specs.Prelude.{All, AllPairs, Contains, IsSomeAnd, unwrap_or}
+use Rattle.std.proofs.Common.{◌≡◌, ◌≢◌, ℕ, zero, suc, ◌+◌, ◌-◌, ◌*◌, ◌%◌, ◌<◌, ◌≤◌, Bool, true, false, cond, List, [], ◌∷◌, ◌++◌, length, map, sum_by, Option, Some, None, refl, sym, ap, ◌∙◌, subst, arith, inl, inr, ◌⊎◌, find, nat_eq, slice_index_or, Decides, length-append, Result, Ok, Err}
+use Rattle.std.specs.Prelude.{All, AllPairs, Contains, IfOk, IsSomeAnd, unwrap_or}
 use Rattle.std.specs.Option.{option_map}
 use Rattle.std.specs.Cmp.Lexicographic.{pointwise}
 use Rattle.std.proofs.Math.ListN.{get_or-map, length-map}
@@ -8,6 +8,7 @@ use Rattle.std.proofs.lemmas.List.{get_or_append_left, get_or-append-add, map-ap
 use Rattle.std.proofs.lemmas.List.Sums.{sum_by-cons}
 use Rattle.std.proofs.lemmas.Bool.Decides.{Decides-eqb}
 use Rattle.std.proofs.lemmas.Slice.Eq.{slice_eq-Decides}
+use Rattle.tso_words.specs.declared.name.NoMemory.{NoMemory}
 use Rattle.tso_core.specs.Systems.{Names, Places, GlobalsOf}
 use Rattle.tso_core.specs.Placing.{address_of, base_of, NamesDiffer}
 use Rattle.tso_core.specs.Runs.{IsCodePlace, IsDataPlace, AreApart, IsProper}
@@ -202,3 +203,9 @@ module _ (g : GlobalsOf) (w : AreWithin g) where
         objects_placed = data_placed;
         objects_apart = data_apart;
       }
+
+pub made_proper : (g : GlobalsOf) (list : Places) (made : Result Places NoMemory) → list ≡ default_places g → IfOk made (λ at. at ≡ list) → AreWithin g → IfOk made (λ at. IsProper g at)
+made_proper g list (Ok places) e made within =
+    let P : Places → Type 0 = λ at. IsProper g at in
+    subst P (sym (made ∙ e)) (proper g within)
+made_proper g list (Err _) e made within = tt

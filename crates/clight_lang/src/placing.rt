@@ -20,7 +20,7 @@ pub fn default_placement(alloc: Heap, p: &Program) -> Result<Placement, NoMemory
 {
     let list = with_functions(Vec::new(alloc), &p.globals.functions)?;
     let list = with_objects(list, &p.globals.objects)?;
-    Ok(Placement::made(list))
+    Placement::made(alloc, list)
 }
 
 /// The list with the functions behind it, each at an address of its own.

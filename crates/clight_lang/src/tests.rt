@@ -26,7 +26,7 @@ fn words(alloc: Heap, list: &[u32]) -> Result<Words, Fail> {
 
 fn place(alloc: Heap) -> Result<Placement, Fail> {
     let it = Name::made(alloc, b"it")?;
-    Ok(Placement::made(Vec::from_array(alloc, [(it, IT)])?))
+    Ok(Placement::made(alloc, Vec::from_array(alloc, [(it, IT)])?)?)
 }
 
 fn statements(alloc: Heap, mut list: Vec<Stmt>) -> Result<Rc<Stmts>, Fail> {

@@ -15,7 +15,7 @@ fn one_name(alloc: Global, name: Name, addr: u32) -> Result<Placement, NoMemory>
 {
     let mut list = Vec::new(alloc);
     match list.push((name, addr)) {
-        Ok(()) => Ok(Placement::made(list)),
+        Ok(()) => Placement::made(alloc, list),
         Err(_) => Err(NoMemory),
     }
 }

@@ -12,3 +12,4 @@ pub mod Waiting
 pub mod Places
 pub mod Safely
 pub mod Theorem
+mod Looking

@@ -1,12 +1,13 @@
 //! The names of a program: its defined functions and globals, where they are placed, and the room
 //! of a function.
 
-ghost use Rattle.std.specs.Prelude.{◌≡◌, ◌≤◌, vec_len};
+ghost use Rattle.std.specs.Prelude.{◌≡◌, ◌≤◌, IfOk, vec_len};
 ghost use Rattle.tso_core.specs.Placing.{address_of, NamesDiffer};
 
-use std::alloc::AllocError;
+use indexmap::IndexMap;
+use std::alloc::{AllocError, Global as Heap};
 use std::marker::Model;
-use tso_words::Name;
+use tso_words::{Name, NoMemory};
 
 /// A global of a program. `start` has its first bytes; the others begin as zeros.
 #[derive(Drop)]
@@ -70,7 +71,7 @@ pub struct Room {
 /// The addresses of names, no name twice.
 #[derive(Drop)]
 pub struct Placement {
-    list: Vec<(Name, u32)>,
+    addresses: IndexMap<Name, u32>,
 }
 
 impl Model for Placement {
@@ -79,32 +80,35 @@ impl Model for Placement {
 
     ghost Value = { Places };
 
-    ghost view = { λ p. p.list.items };
+    ghost view = { λ p. p.addresses.entries };
 
-    ghost invariant = { λ p. NamesDiffer p.list.items };
+    ghost invariant = { λ p. NamesDiffer p.addresses.entries };
 }
 
 impl Placement {
     /// These names at these addresses.
-    pub fn made(list: Vec<(Name, u32)>) -> Placement
+    pub fn made(alloc: Heap, list: Vec<(Name, u32)>) -> Result<Placement, NoMemory>
         requires { NamesDiffer list.items }
-        ensures { result ≡ list.items }
+        ensures { IfOk result (λ p. p ≡ list.items) }
     {
-        Placement { list }
+        let mut addresses = IndexMap::new(alloc);
+        for (name, address) in list {
+            addresses.insert(name, address).map_err(AllocError::from)?;
+        }
+        Ok(Placement { addresses })
     }
 
     /// The address of a name; `None` where it has none.
     pub fn find(&self, name: &Name) -> Option<u32>
         ensures { result ≡ address_of self.now name.now }
     {
-        self.list.iter().find(|e| e.0 == *name).map(|e| e.1)
+        self.addresses.get(name).copied()
     }
 }
 
 #[cfg(test)]
 mod tests {
     use super::*;
-    use std::alloc::Global as Heap;
     use std::test::Fail;
 
     fn program(alloc: Heap) -> Result<Globals, Fail> {
@@ -137,7 +141,7 @@ mod tests {
         let alloc = rt.alloc();
         let x = Name::made(alloc, b"x")?;
         let list = Vec::from_array(alloc, [(Name::made(alloc, b"x")?, 0x2000_0000)])?;
-        let at = Placement::made(list);
+        let at = Placement::made(alloc, list)?;
         assert_eq!(rt; at.find(&x), Some(0x2000_0000));
         assert_eq!(rt; at.find(&Name::made(alloc, b"y")?), None);
         Ok(())

@@ -8,8 +8,8 @@ use Rattle.x86_lang.specs.Assembly.{labels_of}
 use Rattle.x86_text.specs.Text.{AsmOf}
 use Rattle.x86_text.specs.Printed.{printed}
 use Rattle.x86_machine.specs.X86Tso.{x86_machine}
+use Rattle.first_form.specs.Form.{TenTokens}
 use Rattle.first_pass.specs.Assembled.{parts_returning, returning}
-use Rattle.tso_top.specs.Tokens.{TenTokens}
 use Rattle.tso_top.specs.Compiles.{Compiles}
 
 pub compiles : (bytes text : List ℕ) (n : ℕ) → TenTokens bytes n → AsmOf text (parts_returning n) → text ≡ printed (parts_returning n) → EveryRunMatched (machine (language (returned n))) (x86_machine (returning n)) 1 → Compiles bytes text

@@ -1,5 +1,5 @@
 -- A command that prints: from its status and its lines to its promise.
-use Rattle.std.proofs.Common.{◌≡◌, ◌≢◌, ℕ, List, [], ◌++◌, refl, sym, subst, Option, Some, None, Result, Ok, Err, inl, inr}
+use Rattle.std.proofs.Common.{◌≡◌, ℕ, List, refl, sym, subst, Option, None, Result, Ok, Err}
 use Rattle.tso_outside.specs.Views.{StoreView, SinkView, Rose, Turns}
 use Rattle.tso_outside.specs.declared.outside.Failed.{Failed}
 use Rattle.tso_files.specs.Whole.{PutsWhole}
@@ -9,7 +9,7 @@ use Rattle.tso_status.specs.declared.status.Status.TheVariants.{Done, WriteFault
 use Rattle.tso_status.specs.Statuses.{line_of}
 use Rattle.tso_top.specs.declared.replays.Printed.{Printed}
 use Rattle.tso_top.specs.Commands.{Command, writes, Makes, Outcome}
-use Rattle.tso_top.specs.Promise.{Promise, Prints, PrintsSome, PutsAll, AreLines, WriteCause, IsQuietFor, IsAsked, Leaves, ByWriteFault, ShowsOutcome}
+use Rattle.tso_top.specs.Promise.{Promise, Prints, PutsAll, AreLines, WriteCause, IsQuietFor, IsAsked, Leaves, ByWriteFault}
 use Rattle.tso_top.specs.Answers.{LinesFor, PutsLines, ArePut, AreCut, AreOwn, CutsOff, ByFault, Stays, printed_status, printed_lines}
 use Rattle.tso_top.proofs.Outcomes.{free, prints, done_not_free, not_rose, none_put, completed}
 

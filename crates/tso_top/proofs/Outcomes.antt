@@ -2,7 +2,9 @@
 use Rattle.std.proofs.Common.{◌≡◌, ◌≢◌, ℕ, List, [], ◌++◌, refl, sym, ap, subst, Option, Some, None, Result, Ok, Err, inl, inr, ◌⊎◌, Vec, Global, arith}
 use Rattle.std.proofs.lemmas.List.{append-nil}
 use Rattle.std.specs.Option.{ForSome}
-use Rattle.std.specs.Prelude.{MatchOption, ◌↔◌}
+use Rattle.std.specs.Prelude.{MatchOption, ◌↔◌, ◌≤◌, length}
+use Rattle.first_form.specs.Form.{TenTokens}
+use Rattle.first_form.proofs.HasTree.{has_tree}
 use Rattle.tso_outside.specs.Views.{Files, held, StoreView, SinkView, Rose, ReadCause}
 use Rattle.tso_outside.specs.declared.outside.Failed.{Failed}
 use Rattle.tso_status.specs.declared.status.Status.{Status}
@@ -10,39 +12,24 @@ use Rattle.tso_status.specs.declared.status.Status.TheVariants.{Done, Usage, Rea
 use Rattle.tso_files.specs.declared.whole.ReadRefusal.{ReadRefusal}
 use Rattle.tso_files.specs.declared.whole.ReadRefusal.TheVariants as refusal
 use Rattle.tso_status.specs.Statuses.{line_of}
-use Rattle.tso_top.specs.Commands.{Command, Compile, Target, Outcome, Reading, Missing, Passes, Within, ReadingBoth, Compiling, text_limit}
+use Rattle.tso_top.specs.Commands.{Command, Compile, Target, Outcome, Reading, Missing, Passes, Within, ReadingBoth, IsFile, IsBuilt, Compiling, source_limit, text_limit}
 use Rattle.tso_top.specs.Replays.{Targeting}
 use Rattle.tso_top.specs.Promise.{Promise, Refuses, IsQuiet, IsFree, ByReadFault, ByWriteFault, ByNoMemory, Exactly, IsAsked, IsMissing, Prints, PutsAll}
 use Rattle.tso_files.specs.Whole.{IsWhole, ReadsWhole, PutsWhole}
 use Rattle.tso_files.proofs.Causes.{turns_same}
 use Rattle.tso_top.specs.Answers.{status_of}
 
--- what holds before a file is read leads on to what its bytes lead to
+-- a file that is read and found within its limit leads to what its bytes lead to
 module _ (limit : ℕ) (next : List ℕ → Status → List ℕ → Type 0) where
-  must_too_long : (o : Option (List ℕ)) → IsWhole o limit (Err refusal.TooLong) → (s : Status) (lines : List ℕ) → Reading limit next o s lines → TooLong ≡ s
-  must_too_long o long s lines Missing = absurd long
-  must_too_long o long s lines (Passes bytes passes) = refl
-  must_too_long o long s lines (Within bytes status printed within rest) = absurd (omega arith)
-
   pub only_too_long : (o : Option (List ℕ)) → IsWhole o limit (Err refusal.TooLong) → Reading limit next o TooLong (line_of TooLong)
   only_too_long None long = absurd long
   only_too_long (Some bytes) long = Passes bytes long
-
-  pub must_within : (o : Option (List ℕ)) (read : Vec ℕ Global) (t : Status) → IsWhole o limit (Ok read) → ((s : Status) (lines : List ℕ) → next read.items s lines → t ≡ s) → (s : Status) (lines : List ℕ) → Reading limit next o s lines → t ≡ s
-  must_within o read t whole one s lines Missing = absurd whole
-  must_within o read t whole one s lines (Passes bytes passes) = absurd (let h = whole.1 in omega arith)
-  must_within o read t whole one s lines (Within bytes status printed within rest) = one s lines (subst (λ b. next b s lines) (sym whole.0) rest)
 
   pub only_within : (o : Option (List ℕ)) (read : Vec ℕ Global) (s : Status) (lines : List ℕ) → IsWhole o limit (Ok read) → next read.items s lines → Reading limit next o s lines
   only_within None read s lines whole rest = absurd whole
   only_within (Some bytes) read s lines whole rest = Within bytes s lines whole.1 (subst (λ b. next b s lines) whole.0 rest)
 
   -- a refused read
-  pub must_refused : (o : Option (List ℕ)) (r : ReadRefusal) → IsWhole o limit (Err r) → (s : Status) (lines : List ℕ) → Reading limit next o s lines → IsFree (status_of r) ⊎ (status_of r ≡ s)
-  must_refused o refusal.ReadFault whole s lines reading = inl ByReadFault
-  must_refused o refusal.NoMemory whole s lines reading = inl ByNoMemory
-  must_refused o refusal.TooLong whole s lines reading = inr (must_too_long o whole s lines reading)
-
   pub only_refused : (o : Option (List ℕ)) (r : ReadRefusal) → IsWhole o limit (Err r) → IsFree (status_of r) ⊎ Reading limit next o (status_of r) (line_of (status_of r))
   only_refused o refusal.ReadFault whole = inl ByReadFault
   only_refused o refusal.NoMemory whole = inl ByNoMemory
@@ -93,7 +80,7 @@ none_put lines a b none p =
 
 -- where the files ask for Done, none that the command reads is missing
 not_missing : (c : Command) (files : Files) (lines : List ℕ) → Outcome c files Done lines → IsMissing c files → ⊥
-not_missing (Compile i o) files lines outcome missing = elim missing [ inl none ↦ there 4194304 Compiling (held files i) Done lines outcome refl none | inr more ↦ more ]
+not_missing (Compile i o) files lines outcome missing = elim missing [ inl none ↦ there source_limit Compiling (held files i) Done lines outcome refl none | inr more ↦ more ]
 not_missing (Target i j) files lines outcome missing = elim missing [
   | inl none ↦ there text_limit (λ a s ls. Reading text_limit (Targeting a) (held files j) s ls) (held files i) Done lines outcome refl none
   | inr more ↦ elim more [ inl none ↦ both_there text_limit Targeting (held files i) (held files j) Done lines outcome refl none | inr nothing ↦ nothing ]
@@ -141,3 +128,10 @@ refused_cause c name limit u v r is a e = one_missing name c u v is (a.cause (ap
 pub usage_exactly : (o : Option Command) (u w : StoreView) (a b : SinkView) (s : Status) → MatchOption o (Refuses u w a b s) (λ c. Promise c u w a b s) → (s ≡ Usage) ↔ (o ≡ None)
 usage_exactly None u w a b s h = (λ e. refl, λ e. h.usage)
 usage_exactly (Some c) u w a b s h = (λ e. absurd (h.not_usage e), λ e. absurd (cc))
+
+-- a file of the form is of the grammar, and asks for Done
+pub form_asks : (files : Files) (input output bytes : List ℕ) (n : ℕ) → held files input ≡ Some bytes → length bytes ≤ source_limit → TenTokens bytes n → Outcome (Compile input output) files Done []
+form_asks files input output bytes n here short h =
+    let t = has_tree bytes n h in
+    let P : Option (List ℕ) → Type 0 = λ o. Reading source_limit Compiling o Done [] in
+    subst P (sym here) (Within bytes Done [] short (IsFile t.0 Done [] t.1 (IsBuilt n h)))

@@ -1,5 +1,5 @@
 -- What `target` answers, from how its files were read and what their bytes lead to.
-use Rattle.std.proofs.Common.{◌≡◌, ◌≢◌, ◌≤◌, ℕ, List, [], ◌∷◌, ◌++◌, length, refl, sym, ◌∙◌, ap, subst, Option, Some, None, Result, Ok, Err, inl, inr, ◌⊎◌, Vec, Global, arith}
+use Rattle.std.proofs.Common.{◌≡◌, ◌≢◌, ℕ, List, [], ◌∷◌, ◌++◌, refl, sym, ◌∙◌, ap, subst, Option, Result, Ok, Err, inl, inr, Vec, Global}
 use Rattle.std.specs.Prelude.{codes, decimal}
 use Rattle.std.proofs.lemmas.List.{append_assoc}
 use Rattle.std.specs.Option.{ForSome}
@@ -12,77 +12,28 @@ use Rattle.schedule_text.specs.declared.schedule.ScheduleRefusal.{ScheduleRefusa
 use Rattle.schedule_text.specs.declared.schedule.ScheduleRefusal.TheVariants as scheduling
 use Rattle.schedule_text.specs.Schedules.{ScheduleOf, IsTold}
 use Rattle.schedule_text.specs.Printed.{events_text, not_a_run_text}
-use Rattle.schedule_text.specs.Text.{lines_of}
-use Rattle.schedule_text.proofs.OneReplay.{one_replay}
-use Rattle.schedule_text.proofs.Progress as schedules
 use Rattle.x86_lang.specs.declared.assembly.Parts.{Parts}
 use Rattle.x86_lang.specs.Assembly.{Assembly, assembly_of}
 use Rattle.x86_text.specs.declared.reading.ReadAsmRefusal.{ReadAsmRefusal}
 use Rattle.x86_text.specs.declared.reading.ReadAsmRefusal.TheVariants as reading
 use Rattle.x86_text.specs.Reading.{IsRefused}
 use Rattle.x86_text.specs.Text.{AsmOf}
-use Rattle.x86_text.proofs.OneSaying.{one_asm}
-use Rattle.x86_text.proofs.OneBad as texts
-use Rattle.x86_text.proofs.Excluded.{asm_has_no_bad}
-use Rattle.x86_run.specs.Target.{TargetGives, end_of_target, opening_of, IsReplayOf}
-use Rattle.x86_run.proofs.OneStep.{one_step}
+use Rattle.x86_run.specs.Target.{IsReplayOf}
 use Rattle.tso_outside.specs.Views.{Files, held, StoreView, Later, ReadCause}
 use Rattle.tso_files.specs.declared.whole.ReadRefusal.{ReadRefusal}
 use Rattle.tso_files.specs.declared.whole.ReadRefusal.TheVariants as refusal
 use Rattle.tso_files.specs.Whole.{IsWhole, ReadsWhole}
-use Rattle.tso_files.proofs.Causes.{later_trans, read_cause_from, read_cause_to}
+use Rattle.tso_files.proofs.Causes.{later_trans, read_cause_from}
 use Rattle.tso_status.specs.declared.status.Status.{Status}
 use Rattle.tso_status.specs.declared.status.Status.TheVariants.{Done, Usage, ReadFault, WriteFault, TooLong, NoMemory, BadText, BadSchedule, NotARun}
 use Rattle.tso_status.specs.Statuses.{line_of}
 use Rattle.tso_top.specs.declared.replays.Printed.{Printed}
-use Rattle.tso_top.specs.Commands.{Command, Target, Outcome, Reading, Missing, Passes, Within, ReadingBoth, text_limit}
-use Rattle.tso_top.specs.Replays.{Playing, Plays, Stops, Scheduling, IsNoSchedule, IsSchedule, Assembling, IsNoText, IsText, Targeting}
-use Rattle.tso_top.specs.Promise.{Exactly, IsMissing, ByReadFault, ByNoMemory, ShowsLine, ShowsOutcome}
+use Rattle.tso_top.specs.Commands.{Target, Outcome, Reading, text_limit}
+use Rattle.tso_top.specs.Replays.{Playing, Plays, Stops, Scheduling, IsNoSchedule, IsSchedule, IsNoText, IsText, Targeting}
+use Rattle.tso_top.specs.Promise.{IsMissing, ByReadFault, ByNoMemory, ShowsLine, ShowsOutcome}
 use Rattle.tso_top.specs.Answers.{LeadsTo, LinesFor, PrintsReplay, printed_status, printed_lines, status_of, bad_text, bad_schedule}
 use Rattle.tso_top.proofs.Outcomes.{only_within, only_too_long, refused_cause, free}
-
--- ## The files ask for one status
-
-abbrev IsOne : {A : Type 0} → (A → Status → List ℕ → Type 0) → Type 0
-IsOne {A} next = (a : A) (s : Status) (lines : List ℕ) → next a s lines → (t : Status) (others : List ℕ) → next a t others → s ≡ t
-
-reading_one : (limit : ℕ) (next : List ℕ → Status → List ℕ → Type 0) → IsOne next → IsOne (Reading limit next)
-reading_one limit next one o s lines Missing t others Missing = refl
-reading_one limit next one o s lines (Passes b p) t others (Passes c q) = refl
-reading_one limit next one o s lines (Passes b p) t others (Within c status printed within rest) = absurd (omega arith)
-reading_one limit next one o s lines (Within b status printed within rest) t others (Passes c q) = absurd (omega arith)
-reading_one limit next one o s lines (Within b s1 l1 within rest) t others (Within c t1 m1 within2 rest2) = one b s1 l1 rest t1 m1 rest2
-
-playing_one : (a : Assembly) → IsOne (Playing a)
-playing_one a lines s ps (Plays r h) t qs (Plays q k) = refl
-playing_one a lines s ps (Plays r h) t qs (Stops n q k) = absurd (one_replay TargetGives end_of_target one_step lines (opening_of a) h.0 k.0 (Ok r) (Err (replaying.NotARun n q)) h.1 k.1)
-playing_one a lines s ps (Stops n r h) t qs (Plays q k) = absurd (one_replay TargetGives end_of_target one_step lines (opening_of a) h.0 k.0 (Err (replaying.NotARun n r)) (Ok q) h.1 k.1)
-playing_one a lines s ps (Stops n r h) t qs (Stops m q k) = ap NotARun (one_replay TargetGives end_of_target one_step lines (opening_of a) h.0 k.0 (Err (replaying.NotARun n r)) (Err (replaying.NotARun m q)) h.1 k.1).0
-
-scheduling_one : (next : List Line → Status → List ℕ → Type 0) → IsOne next → IsOne (Scheduling next)
-scheduling_one next one bytes s ps (IsNoSchedule n h) t qs (IsNoSchedule m k) = ap BadSchedule (schedules.one_bad bytes n m h k)
-scheduling_one next one bytes s ps (IsNoSchedule n h) t qs (IsSchedule lines t1 q1 k rest) = absurd (schedules.not_both bytes lines n k h)
-scheduling_one next one bytes s ps (IsSchedule lines s1 p1 h rest) t qs (IsNoSchedule m k) = absurd (schedules.not_both bytes lines m h k)
-scheduling_one next one bytes s ps (IsSchedule lines s1 p1 h rest) t qs (IsSchedule others t1 q1 k rest2) =
-    let P : List Line → Type 0 = λ x. next x t1 q1 in
-    one lines s1 p1 rest t1 q1 (subst P (schedules.one_schedule 1 (lines_of bytes) others lines k h) rest2)
-
-assembling_one : (next : Assembly → Status → List ℕ → Type 0) → IsOne next → IsOne (Assembling next)
-assembling_one next one text s ps (IsNoText n h) t qs (IsNoText m k) = ap BadText (texts.one_bad text n m h k)
-assembling_one next one text s ps (IsNoText n h) t qs (IsText p t1 q1 k rest) = absurd (asm_has_no_bad text p n k h)
-assembling_one next one text s ps (IsText p s1 p1 h rest) t qs (IsNoText m k) = absurd (asm_has_no_bad text p m h k)
-assembling_one next one text s ps (IsText p s1 p1 h rest) t qs (IsText q t1 q1 k rest2) =
-    let P : Assembly → Type 0 = λ x. next x t1 q1 in
-    one (assembly_of p) s1 p1 rest t1 q1 (subst P (ap assembly_of (one_asm text q p k h)) rest2)
-
-targeting_one : (schedule : List ℕ) → IsOne (λ text s ps. Targeting text schedule s ps)
-targeting_one schedule = assembling_one (λ a s ps. Scheduling (Playing a) schedule s ps) (λ a. scheduling_one (Playing a) (playing_one a) schedule)
-
-target_one : (i j : List ℕ) → IsOne (Outcome (Target i j))
-target_one i j files = reading_one text_limit (λ a s ls. Reading text_limit (Targeting a) (held files j) s ls) (λ text. reading_one text_limit (Targeting text) (λ schedule. targeting_one schedule text) (held files j)) (held files i)
-
-exactly : (i j : List ℕ) (files : Files) (s : Status) (lines : List ℕ) → Outcome (Target i j) files s lines → Exactly (Target i j) files s
-exactly i j files s lines h = record { must = λ asked others other. inr (target_one i j files s lines h asked others other); only = inr (lines, h) }
+use Rattle.tso_top.proofs.OneStatus.{exactly}
 
 -- ## From texts to what they lead to
 
@@ -198,7 +149,7 @@ module _ (i j : List ℕ) (u w : StoreView) (later : Later u w) (same : w.files 
   too_long h = record {
     later = later;
     same_files = same;
-    told = λ files e. exactly i j files TooLong (line_of TooLong) (h files e);
+    told = λ files e. exactly (Target i j) files TooLong (line_of TooLong) (h files e);
     shows = refl;
     outcome = h;
     read_fault = λ e. absurd (cc);
@@ -212,7 +163,7 @@ module _ (i j : List ℕ) (u w : StoreView) (later : Later u w) (same : w.files 
       record {
         later = later;
         same_files = same;
-        told = λ files f. exactly i j files s ps (h files f);
+        told = λ files f. exactly (Target i j) files s ps (h files f);
         shows = shows s ps e;
         outcome = λ files f. shows_outcome (Outcome (Target i j) files) s ps e (h files f);
         read_fault = λ f. absurd (own.not_read f);

@@ -6,12 +6,12 @@ use Rattle.tso_core.specs.Theorem.{MatchedRun}
 use Rattle.tso_core.specs.Machine.{machine}
 use Rattle.clight_lang.specs.Meaning.{language}
 use Rattle.clight_lang.specs.MainAlone.{main_nodes, returned}
+use Rattle.first_form.specs.Form.{TenTokens}
 use Rattle.x86_lang.specs.declared.assembly.Parts.{Parts}
 use Rattle.x86_lang.specs.Assembly.{assembly_of, labels_of}
 use Rattle.x86_text.specs.Text.{AsmOf}
 use Rattle.x86_text.specs.Printed.{printed}
 use Rattle.x86_machine.specs.X86Tso.{x86_machine}
-use Rattle.tso_top.specs.Tokens.{TenTokens}
 
 -- the text is a compilation of the bytes
 pub record Compiles (bytes text : List ℕ) : Type 0 where

@@ -56,8 +56,8 @@ fn held<'a>(store: &'a MemStore, name: &str) -> Option<&'a [u8]> {
 }
 
 // The status of `compile IN OUT`, where IN holds these bytes, and what OUT holds then.
-fn compiled(alloc: Global, text: &str) -> Result<(Status, Vec<u8>), AllocError> {
-    let mut store = store_with(alloc, "in.c", text.as_bytes(), 4096, Vec::new(alloc))?;
+fn compiled(alloc: Global, file: &[u8]) -> Result<(Status, Vec<u8>), AllocError> {
+    let mut store = store_with(alloc, "in.c", file, 4096, Vec::new(alloc))?;
     let mut out = MemSink::made(alloc, 4096, Vec::new(alloc));
     let list = words(alloc, &["compile", "in.c", "out.s"])?;
     let status = run(alloc, &list, &mut store, &mut out);
@@ -140,8 +140,12 @@ fn files_of_the_form(rt: HostRuntime) -> Result<(), Fail> {
         ("int main(void){return 0;}", "0"),
         ("int main(void) { return 2147483647; }", "2147483647"),
         (" \tint\r\nmain ( void )\x0b{\x0creturn 10 ; }\n", "10"),
+        (
+            "# 1 \"seven.c\"\nint/**/main(void) // {\n#2\n{ return/*;*/7; } /* 8 */",
+            "7",
+        ),
     ] {
-        let (status, written) = compiled(alloc, text)?;
+        let (status, written) = compiled(alloc, text.as_bytes())?;
         assert_eq!(rt; status, Status::Done, "{text}");
         let lines = format!(in alloc;
             "# pace 1\n.globl main\n.data\n.text\nmain:\n\tmovl ${number}, %eax\n\tret\n"
@@ -151,30 +155,143 @@ fn files_of_the_form(rt: HostRuntime) -> Result<(), Fail> {
     Ok(())
 }
 
+// Files of the grammar that are not of the form.
+const OTHER_FILES: [&str; 14] = [
+    "",
+    "// nothing",
+    "int x;",
+    "int main(void) { return 7u; }",
+    "int main(void) { return 7l; }",
+    "int main(void) { return 07; }",
+    "int main(void) { return 0x7; }",
+    "int main(void) { return 2147483648; }",
+    "int main(void) { return -7; }",
+    "int main(void) { return; }",
+    "int main(void) { return7; }",
+    "int main() { return 7; }",
+    "int f(void) { return 7; }",
+    "int main(void) { return 7; } int x;",
+];
+
+// Files that are of no grammar, with the byte of the fault.
+const NO_FILES: [(&str, u32); 15] = [
+    ("int x; int = 3;", 11),
+    ("int main(void) { return 7; } /*", 29),
+    ("int x; /* open", 7),
+    ("intmain(void) { return 7; }", 0),
+    ("int main(void) { return 7 }", 26),
+    ("int main(void) { return 7;", 26),
+    ("int main(void) { return 4294967296; }", 24),
+    ("int main(void) { return 7; }\x00", 28),
+    ("int main(void) { return 7; } # pragma", 29),
+    ("int main(void) { goto out; }", 17),
+    ("int main(void) { return 7; } x", 29),
+    ("typedef int t; t t;", 17),
+    ("@", 0),
+    ("int int;", 4),
+    ("int x = ;", 8),
+];
+
 #[test]
 fn files_of_another_form(rt: HostRuntime) -> Result<(), Fail> {
     let alloc = rt.alloc();
-    for text in [
-        "",
-        "int main(void) { return 7u; }",
-        "int main(void) { return 07; }",
-        "int main(void) { return 0x7; }",
-        "int main(void) { return 2147483648; }",
-        "int main(void) { return 4294967296; }",
-        "int main(void) { return -7; }",
-        "int main(void) { return; }",
-        "intmain(void) { return 7; }",
-        "int main(void) { return7; }",
-        "int main() { return 7; }",
-        "int main(void) { return 7; } /* seven */",
-        "int main(void) { return 7; }\x00",
-        "int main(void) { return 7 }",
-        "int main(void) { return 7;",
-        "int f(void) { return 7; }",
-    ] {
-        let (status, written) = compiled(alloc, text)?;
+    for text in OTHER_FILES {
+        let (status, written) = compiled(alloc, text.as_bytes())?;
         assert_eq!(rt; status, Status::NotBuilt, "{text}");
         assert_eq!(rt; written.len(), 0, "{text}");
+    }
+    for (text, at) in NO_FILES {
+        let (status, written) = compiled(alloc, text.as_bytes())?;
+        assert_eq!(rt; status, Status::Syntax { at }, "{text}");
+        assert_eq!(rt; written.len(), 0, "{text}");
+    }
+    Ok(())
+}
+
+// The place of the fault in the first bytes of the file of seven: a word that is cut short is a name,
+// which no file begins with, and which no list of parameters begins with.
+fn place_of_front(size: u32) -> u32 {
+    match size {
+        1 | 2 => 0,
+        10..=12 => 9,
+        _ => size,
+    }
+}
+
+#[test]
+fn fronts_of_a_file(rt: HostRuntime) -> Result<(), Fail> {
+    let alloc = rt.alloc();
+    for size in 1..28u32 {
+        let front = SEVEN.as_bytes().get(..size as usize).unwrap_or(b"");
+        let (status, _) = compiled(alloc, front)?;
+        let at = place_of_front(size);
+        assert_eq!(rt; status, Status::Syntax { at }, "{size}");
+        assert_eq!(rt; status.code(), 5);
+    }
+    Ok(())
+}
+
+// A file whose main returns 7 in so many pairs of parentheses, between these.
+fn nested(alloc: Global, front: &str, pairs: usize, rest: &str) -> Result<Vec<u8>, AllocError> {
+    let mut file = Vec::from_slice(alloc, front.as_bytes())?;
+    file.extend_from_slice(b"int main(void) { return ")?;
+    for _ in 0..pairs {
+        file.push(b'(')?;
+    }
+    file.push(b'7')?;
+    for _ in 0..pairs {
+        file.push(b')')?;
+    }
+    file.extend_from_slice(rest.as_bytes())?;
+    Ok(file)
+}
+
+// What stands before main, the number of pairs, what stands behind them, the status and its line: the
+// fault that comes first in the file is told.
+const NESTED: [(&str, usize, &str, Status, &str); 6] = [
+    ("", 198, "; }", Status::NotBuilt, "not built\n"),
+    (
+        "",
+        199,
+        "; }",
+        Status::TooDeep { at: 222 },
+        "too deep: byte 222\n",
+    ),
+    (
+        "",
+        199,
+        ";",
+        Status::TooDeep { at: 222 },
+        "too deep: byte 222\n",
+    ),
+    ("", 198, "; } int;", Status::NotBuilt, "not built\n"),
+    (
+        "",
+        198,
+        ";",
+        Status::Syntax { at: 422 },
+        "syntax: byte 422\n",
+    ),
+    (
+        "x; ",
+        199,
+        "; }",
+        Status::Syntax { at: 0 },
+        "syntax: byte 0\n",
+    ),
+];
+
+#[test]
+fn nesting_that_is_too_deep(rt: HostRuntime) -> Result<(), Fail> {
+    let alloc = rt.alloc();
+    let list = words(alloc, &["compile", "a.c", "a.s"])?;
+    for (front, pairs, rest, status, line) in NESTED {
+        let file = nested(alloc, front, pairs, rest)?;
+        let mut store = store_with(alloc, "a.c", &file, 4096, Vec::new(alloc))?;
+        let mut out = MemSink::made(alloc, 4, Vec::new(alloc));
+        assert_eq!(rt; run(alloc, &list, &mut store, &mut out), status);
+        assert!(rt; out.bytes.as_slice() == line.as_bytes());
+        assert!(rt; held(&store, "a.s").is_none());
     }
     Ok(())
 }

@@ -161,5 +161,5 @@ pub fn placement_of(alloc: Global, a: &Asm) -> Result<Placement, NoMemory>
     ensures { IfOk result (λ p. p ≡ labels_of a.now) }
 {
     let places = labels_of(alloc, a.parts())?;
-    Ok(Placement::made(places))
+    Placement::made(alloc, places)
 }

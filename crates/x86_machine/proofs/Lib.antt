@@ -9,3 +9,4 @@ pub mod Calls
 pub mod Loads
 pub mod Creations
 pub mod DataBytes
+mod Externals

@@ -1,12 +1,14 @@
--- The table that the machine makes of an assembly before it runs: for each instruction its line and the address of its name. A place in a list of blocks.
-use Rattle.std.specs.Prelude.{◌≡◌, ℕ, suc, List, [], ◌∷◌, ◌++◌, Option, Some, None, slice_get, ◌-◌, nat_le, nat_lt, if◌then◌else◌}
-use Rattle.tso_core.specs.Systems.{Places}
+-- The tables that the machine makes of an assembly before it runs: for each instruction its line and the address of its name; for each external how many words it takes. A place in a list of blocks.
+use Rattle.std.specs.Prelude.{◌≡◌, ℕ, nat_eq, suc, List, [], ◌∷◌, ◌++◌, Option, Some, None, slice_get, ◌-◌, nat_le, nat_lt, if◌then◌else◌}
+use Rattle.std.specs.Cmp.Lexicographic.{pointwise}
+use Rattle.indexmap.specs.IndexMap.{IndexMap, get}
+use Rattle.tso_core.specs.Systems.{Names, Places}
 use Rattle.x86_table.specs.declared.instruction.Instr.{Instr}
 use Rattle.x86_lang.specs.declared.assembly.CodeLine.{CodeLine}
 use Rattle.x86_lang.specs.declared.assembly.CodeLine.TheVariants as code
 use Rattle.x86_machine.specs.declared.table.Placed.{Placed}
 use Rattle.x86_lang.specs.Assembly.{code_start}
-use Rattle.x86_machine.specs.Target.{name_of, address_or_zero}
+use Rattle.x86_machine.specs.Target.{name_of, address_or_zero, words_of}
 
 -- the entry of a line, and those of lines whose first has this number
 abbrev pub entry_of : Places → (line : ℕ) → CodeLine → List Placed
@@ -27,6 +29,10 @@ IsEntry at lines (Some p) (Some o) = (slice_get lines p.line ≡ Some (code.Op o
 -- the entry of an address
 abbrev pub entry_at : List Placed → (place : ℕ) → Option Placed
 entry_at table place = if nat_le code_start place then slice_get table (place - code_start) else None
+
+-- a map has the words of each external at its name
+abbrev pub Knows : {S : Type 0} → IndexMap Names ℕ S → List (Names × ℕ) → Type 0
+Knows words externs = (name : Names) → get (pointwise nat_eq) words name ≡ words_of externs name
 
 -- how many of the first blocks begin below a base
 abbrev pub count_below : (base : ℕ) → List (ℕ × ℕ) → ℕ

@@ -1,6 +1,7 @@
 //! An assembly with the table by which it is run.
 
-use crate::table::{Placed, entry_of_place, instr_of_line, table_of, words_among};
+use crate::table::{Placed, entry_of_place, instr_of_line, table_of, words_by_name};
+use indexmap::IndexMap;
 use std::alloc::Global;
 use std::marker::Model;
 use tso_core::placement::Placement;
@@ -14,6 +15,8 @@ use x86_table::instruction::Instr;
 pub struct Program<'a> {
     asm: &'a Asm,
     table: Vec<Placed>,
+    /// How many words each external takes.
+    words: IndexMap<Name, u32>,
     /// The bytes of the data.
     bytes: u32,
 }
@@ -26,7 +29,7 @@ impl<'a> Model for Program<'a> {
 
     ghost view = { λ p. p.asm.now };
 
-    ghost invariant = { λ p. IsProgram p.asm.now p.table.items p.bytes };
+    ghost invariant = { λ p. IsProgram p.asm.now p.table.items p.words p.bytes };
 }
 
 impl<'a> Program<'a> {
@@ -41,9 +44,11 @@ impl<'a> Program<'a> {
         ensures { IfOk result (λ p. p ≡ asm.now) }
     {
         let table = table_of(alloc, asm.parts().code.as_slice(), places)?;
+        let words = words_by_name(alloc, asm.parts().externs.as_slice())?;
         Ok(Program {
             asm,
             table,
+            words,
             bytes: data_size(asm),
         })
     }
@@ -86,6 +91,6 @@ impl<'a> Program<'a> {
     pub fn words_of(&self, name: &Name) -> Option<u32>
         ensures { result ≡ words_of (assembly_of self.now).externs name.now }
     {
-        words_among(self.asm.parts().externs.as_slice(), name)
+        self.words.get(name).copied()
     }
 }

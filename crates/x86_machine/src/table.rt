@@ -1,12 +1,14 @@
-//! The table of an assembly: for each instruction its line and the address of its name.
+//! The tables of an assembly: for each instruction its line and the address of its name, and how
+//! many words each external takes.
 ghost use Rattle.std.specs.Prelude.{◌≡◌, ◌++◌, ◌+◌, ◌<◌, IfOk, OnOk, OnSome, MatchOption, Some, length, slice_get};
 ghost use Rattle.x86_table.specs.declared.instruction.Instr.{Instr as InstrMeaning};
 ghost use Rattle.x86_lang.specs.declared.assembly.CodeLine.TheVariants as code;
 ghost use Rattle.x86_lang.specs.Assembly.{code_start};
-ghost use Rattle.x86_machine.specs.Target.{address_or_zero, name_of, words_of};
-ghost use Rattle.x86_machine.specs.Tables.{entry_at, entry_of, entries_of};
+ghost use Rattle.x86_machine.specs.Target.{address_or_zero, name_of};
+ghost use Rattle.x86_machine.specs.Tables.{entry_at, entry_of, entries_of, Knows};
 
-use std::alloc::Global;
+use indexmap::IndexMap;
+use std::alloc::{AllocError, Global};
 use tso_core::placement::Placement;
 use tso_words::{Name, NoMemory};
 use x86_lang::placing::CODE_START;
@@ -115,16 +117,21 @@ pub fn instr_of_line<'a>(asm: &'a Asm, line: usize) -> Option<&'a Instr>
     }
 }
 
-/// How many words an external takes, where the name is that of one.
-pub fn words_among(externs: &[(Name, u32)], name: &Name) -> Option<u32>
-    ensures { result ≡ words_of externs.now name.now }
+/// How many words each external takes, by its name; the first where a name stands twice.
+pub fn words_by_name(
+    alloc: Global,
+    externs: &[(Name, u32)],
+) -> Result<IndexMap<Name, u32>, NoMemory>
+    ensures { IfOk result (λ words. Knows words externs.now) }
 {
-    let mut rest = externs;
-    while let [(external, words), after @ ..] = rest {
-        if external.bytes() == name.bytes() {
-            return Some(*words);
-        }
-        rest = after;
+    let mut words = IndexMap::new(alloc);
+    let mut left = externs.len();
+    while left > 0 {
+        left -= 1;
+        let (name, count) = &externs[left];
+        words
+            .insert(name.clone()?, *count)
+            .map_err(AllocError::from)?;
     }
-    None
+    Ok(words)
 }

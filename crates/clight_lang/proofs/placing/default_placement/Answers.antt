@@ -4,11 +4,10 @@ use Rattle.std.proofs.lemmas.Grind.{common_steps}
 use Rattle.std.specs.Prelude.{All}
 use Rattle.tso_core.specs.declared.placement.Global.{Global}
 use Rattle.tso_core.specs.Placing.{NamesDiffer}
-use Rattle.tso_core.specs.Runs.{IsProper}
 use Rattle.tso_core.specs.Stated.{globals_of, object_of}
-use Rattle.tso_core.specs.Systems.{Names, Places}
+use Rattle.tso_core.specs.Systems.{Names}
 use Rattle.clight_lang.specs.Placed.{default_places, IsAlignment}
-use Rattle.clight_lang.proofs.Placements.{differ, proper}
+use Rattle.clight_lang.proofs.Placements.{differ, made_proper}
 use Rattle.clight_lang.proofs.placing.default_placement.Goals as goal
 
 abbrev ObjectOf : Type 0
@@ -33,6 +32,5 @@ made-requires c =
 pub returns-clause-proper : goal.returns-clause-proper
 returns-clause-proper c =
     let g = globals_of c.args.p.now.globals in
-    let e : c.made.result ≡ default_places g = grind (arith, common_steps) in
-    let P : Places → Type 0 = λ at. IsProper g at in
-    subst P (sym e) (proper g c.requires)
+    let e : c.in_ok-list-2.list.items ≡ default_places g = grind (arith, common_steps) in
+    made_proper g c.in_ok-list-2.list.items c.made.result e c.made.ensures c.requires

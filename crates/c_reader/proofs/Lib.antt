@@ -1,0 +1,5 @@
+pub mod Answered
+pub mod Bottoms
+pub mod NameBytes
+pub mod OtherFrames
+mod OtherTokens

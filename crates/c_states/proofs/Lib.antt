@@ -1,0 +1,4 @@
+pub mod Operands
+pub mod OtherFrames
+pub mod Same
+pub mod Stars

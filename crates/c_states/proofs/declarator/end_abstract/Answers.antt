@@ -1,0 +1,8 @@
+use Rattle.c_frames.specs.Frames.{stack_of}
+use Rattle.c_frames.specs.Readers.{token_of}
+use Rattle.c_parts.specs.Views.{abstract_part_of}
+use Rattle.c_states.proofs.OtherFrames.{no_abstract_end}
+use Rattle.c_states.proofs.declarator.end_abstract.Goals as goal
+
+pub returns : goal.returns
+returns c = λ n. no_abstract_end (abstract_part_of c.args.declarator) c.args.frame n (stack_of c.args.context.stack) c.args.context.names (token_of c.args.token) c.requires c.in_default.not-ParameterOf c.in_default.not-TypeName c.in_default.not-Open

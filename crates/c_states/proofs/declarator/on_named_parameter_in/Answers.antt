@@ -1,0 +1,8 @@
+use Rattle.c_frames.specs.Frames.{stack_of}
+use Rattle.c_frames.specs.Readers.{token_of}
+use Rattle.c_parts.specs.Views.{declarator_part_of, specifiers_part_of}
+use Rattle.c_states.proofs.OtherFrames.{no_named_parameter}
+use Rattle.c_states.proofs.declarator.on_named_parameter_in.Goals as goal
+
+pub returns-in_default : goal.returns-in_default
+returns-in_default c = λ n. no_named_parameter (specifiers_part_of c.args.specifiers) (declarator_part_of c.args.declarator) c.args.frame n (stack_of c.args.context.stack) c.args.context.names (token_of c.args.token) c.in_default.not-Parameter
