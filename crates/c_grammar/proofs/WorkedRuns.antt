@@ -4,9 +4,9 @@ use Rattle.c_grammar.specs.Tokens.{Decimal, LogicalAnd, Ampersand, Less, Plus, M
 use Rattle.c_grammar.specs.Machine.{State, feed, go, start, is_done}
 
 -- tokens in a row, their places counted
-abbrev row : ℕ → List Kind → List Token
-row n [] = []
-row n (t ∷ ts) = token t n ∷ row (suc n) ts
+abbrev tokens_from : ℕ → List Kind → List Token
+tokens_from n [] = []
+tokens_from n (t ∷ ts) = token t n ∷ tokens_from (suc n) ts
 
 abbrev is_file : Option State → Bool
 is_file None = false
@@ -18,11 +18,11 @@ is_read (Some s) = true
 
 abbrev are_files : List (List Kind) → Bool
 are_files [] = true
-are_files (ts ∷ rest) = is_file (go (Some start) (row 0 ts)) && are_files rest
+are_files (ts ∷ rest) = is_file (go (Some start) (tokens_from 0 ts)) && are_files rest
 
 -- the tokens before the given number begin a file, and with the next they begin none
 abbrev stops_at : ℕ → List Kind → Bool
-stops_at n ts = is_read (go (Some start) (row 0 (take n ts))) && not (is_read (go (Some start) (row 0 (take (suc n) ts))))
+stops_at n ts = is_read (go (Some start) (tokens_from 0 (take n ts))) && not (is_read (go (Some start) (tokens_from 0 (take (suc n) ts))))
 
 -- each of these is a file:
 --   int x;

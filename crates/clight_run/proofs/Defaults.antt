@@ -7,7 +7,8 @@ use Rattle.tso_memory.specs.Buffer.{is_place_allowed}
 use Rattle.tso_core.specs.declared.offer.Offer.{Offer}
 use Rattle.tso_core.specs.declared.offer.Offer.TheVariants as O
 use Rattle.tso_core.specs.Shared.{is_block_allowed, block_size}
-use Rattle.tso_machine.specs.Choices.{IsLeast, NonePasses, IsLeastOrNone, IsLeastOrZero, IsDefault}
+use Rattle.tso_core.specs.Least.{IsLeast, NonePasses}
+use Rattle.tso_machine.specs.Choices.{IsLeastOrNone, IsLeastOrZero, IsDefault}
 
 pub no_both : (b : Bool) → b ≡ true → b ≡ false → ⊥
 no_both true h k = cc

@@ -1,7 +1,10 @@
 //! Programs on their machines, with their names in one place.
 
 ghost use Rattle.std.specs.Prelude.{◌≡◌, ◌∷◌, [], IfOk};
+ghost use Rattle.toy_machines.specs.Meaning.{language};
 ghost use Rattle.toy_machines.specs.Placed.{x_placed};
+ghost use Rattle.tso_core.specs.Machine.{open_machine};
+ghost use Rattle.tso_machine.specs.Machines.{machine_state};
 
 use crate::script::{Script, Scripts};
 use std::alloc::Global;
@@ -28,8 +31,10 @@ fn x_placed(alloc: Global) -> Result<Placement, NoMemory>
     one_name(alloc, name, 0x2000_0000)
 }
 
-/// A script on its machine.
-pub fn script_machine(alloc: Global, script: &Script) -> Result<Machine<'_, Scripts>, NoMemory> {
+/// A script on its machine, as it opens.
+pub fn script_machine(alloc: Global, script: &Script) -> Result<Machine<'_, Scripts>, NoMemory>
+    ensures { IfOk result (λ m. machine_state (λ t. t) m ≡ (open_machine (language script.now)).opening x_placed) }
+{
     let at = x_placed(alloc)?;
     Machine::made(alloc, script, at)
 }

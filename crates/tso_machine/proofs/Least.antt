@@ -8,11 +8,7 @@ use Rattle.tso_memory.specs.declared.buffer.Item.{Item}
 use Rattle.tso_memory.specs.Memory.{meets}
 use Rattle.tso_memory.specs.Buffer.{objects_lifted, pending_ok}
 use Rattle.tso_core.specs.Shared.{is_block_allowed}
-use Rattle.tso_machine.specs.Choices.{IsLeast}
-
--- between two addresses no multiple of 16 passes
-abbrev pub NoneBetween : (ℕ → Bool) → ℕ → ℕ → Type 0
-NoneBetween test from to = (x : ℕ) → from ≤ x → x < to → x % 16 ≡ 0 → test x ≡ false
+use Rattle.tso_core.specs.Least.{IsLeast, NoneBetween}
 
 -- where the test is another, which fails wherever the one of the walk does
 module _ (from : ℕ) (walked test : ℕ → Bool) (weaker : (x : ℕ) → walked x ≡ false → test x ≡ false) (x : ℕ) (none : NoneBetween walked from x) where

@@ -5,7 +5,7 @@ use Rattle.std.specs.List.{list_all}
 use Rattle.std.proofs.lemmas.Bool.{cases_lt, and_left, and_right}
 use Rattle.tso_memory.specs.declared.buffer.Item.{Item}
 use Rattle.tso_memory.specs.Buffer.{BufferMeaning, unplaced, places_lifted, pending_ok}
-use Rattle.tso_machine.specs.Skips.{Skips}
+use Rattle.tso_core.specs.Least.{Skips}
 
 -- a test that answers the same
 pub skips_same : (p q : ℕ → Bool) (x y : ℕ) → ((a : ℕ) → p a ≡ q a) → Skips p x y → Skips q x y

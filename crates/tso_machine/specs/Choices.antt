@@ -1,5 +1,5 @@
 -- The choice that a step takes where its schedule gives none (a rule of this project: the least address that is allowed, so that runs of a schedule repeat).
-use Rattle.std.specs.Prelude.{◌≡◌, ◌≢◌, ◌≤◌, ◌%◌, ◌⊎◌, ℕ, Bool, true, false, List, Option, Some, None, Result, Err, slice_get}
+use Rattle.std.specs.Prelude.{◌≡◌, ◌≢◌, ◌⊎◌, ℕ, Bool, true, List, Option, Some, None, Result, Err, slice_get}
 use Rattle.tso_words.specs.declared.value.Val.TheVariants.{Word}
 use Rattle.tso_memory.specs.declared.object.Object.{Object}
 use Rattle.tso_memory.specs.declared.buffer.Item.{Item}
@@ -13,20 +13,10 @@ use Rattle.tso_core.specs.declared.offer.StepOut.{StepOut}
 use Rattle.tso_core.specs.declared.offer.StepRefusal.{StepRefusal}
 use Rattle.tso_core.specs.declared.offer.StepRefusal.TheVariants.{NoMemory}
 use Rattle.tso_core.specs.Language.{Language}
+use Rattle.tso_core.specs.Least.{IsLeast, NonePasses}
 use Rattle.tso_core.specs.Machine.{MachineState, step}
 use Rattle.tso_core.specs.Shared.{is_block_allowed, block_size}
 use Rattle.tso_machine.specs.State.{StepGives}
-
--- the least multiple of 16 from an address on that passes a test
-pub record IsLeast (from : ℕ) (test : ℕ → Bool) (base : ℕ) : Type 0 where
-  pub high : from ≤ base
-  pub multiple : base % 16 ≡ 0
-  pub passes : test base ≡ true
-  pub least : (x : ℕ) → from ≤ x → x % 16 ≡ 0 → test x ≡ true → base ≤ x
-
--- no multiple of 16 from an address on passes it
-abbrev pub NonePasses : (from : ℕ) → (ℕ → Bool) → Type 0
-NonePasses from test = (x : ℕ) → from ≤ x → x % 16 ≡ 0 → test x ≡ false
 
 -- the least, if there is one
 abbrev pub IsLeastOrNone : (from : ℕ) → (ℕ → Bool) → Option ℕ → Type 0

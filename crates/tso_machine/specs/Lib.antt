@@ -3,5 +3,4 @@ pub mod Choices
 pub mod Known
 pub mod Machines
 pub mod Proper
-pub mod Skips
 pub mod State

@@ -5,7 +5,7 @@ ghost use Rattle.tso_core.specs.Shared.{is_block_allowed};
 ghost use Rattle.tso_memory.specs.Buffer.{is_place_allowed, objects_lifted, pending_ok};
 ghost use Rattle.tso_memory.specs.Kept.{memory_of};
 ghost use Rattle.tso_machine.specs.Choices.{IsLeastOrNone, IsLeastOrZero, IsDefault};
-ghost use Rattle.tso_machine.specs.Skips.{Skips};
+ghost use Rattle.tso_core.specs.Least.{Skips};
 
 use crate::heap::block_size;
 use crate::skips::{skip_objects, skip_pending, skip_to_aligned};

@@ -8,7 +8,7 @@ ghost use Rattle.tso_memory.specs.Buffer.{is_lift, is_place, objects_lifted, unp
 ghost use Rattle.tso_memory.specs.Kept.{memory_of};
 ghost use Rattle.tso_memory.specs.Memory.{meets};
 ghost use Rattle.tso_memory.specs.Through.{is_lifted_by};
-ghost use Rattle.tso_machine.specs.Skips.{Skips};
+ghost use Rattle.tso_core.specs.Least.{Skips};
 
 use tso_memory::{Buffer, Item, Memory, Object};
 

@@ -3,11 +3,8 @@ use Rattle.std.proofs.Common.{◌≡◌, ◌≤◌, ◌<◌, ◌+◌, ◌%◌, �
 use Rattle.std.specs.Prelude.{◌&&◌, ◌==◌, nat_le}
 use Rattle.std.proofs.lemmas.Bool.{cases_lt, both_ways, le-leb, leb-true, eq-eqb}
 use Rattle.x86_machine.specs.Target.{lies_in}
-use Rattle.x86_machine.specs.Choices.{IsLeast, NonePasses, IsLeastOrZero}
-
--- between two addresses no multiple of 16 passes
-abbrev pub NoneBetween : (ℕ → Bool) → ℕ → ℕ → Type 0
-NoneBetween test from to = (x : ℕ) → from ≤ x → x < to → x % 16 ≡ 0 → test x ≡ false
+use Rattle.tso_core.specs.Least.{IsLeast, NonePasses, NoneBetween}
+use Rattle.x86_machine.specs.Choices.{IsLeastOrZero}
 
 -- a base is allowed at a multiple of 16, in a range, and where nothing stands in the way
 abbrev pub is_base : (from bytes size : ℕ) → (ℕ → Bool) → ℕ → Bool

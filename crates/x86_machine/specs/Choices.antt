@@ -1,10 +1,11 @@
 -- The choice that a step takes where its schedule gives none (a rule of this project: the least address that is allowed, so that runs of a schedule repeat).
-use Rattle.std.specs.Prelude.{◌≡◌, ◌≤◌, ◌%◌, ◌⊎◌, ℕ, Bool, true, false, Option, Some, None, Result, Ok, Err, codes, bytes_eq, slice_get, if◌then◌else◌}
+use Rattle.std.specs.Prelude.{◌≡◌, ◌⊎◌, ℕ, Bool, Option, Some, None, Result, Ok, Err, codes, bytes_eq, slice_get, if◌then◌else◌}
 use Rattle.tso_core.specs.declared.Step.{Step}
 use Rattle.tso_core.specs.declared.Step.TheVariants.{Run, Drain}
 use Rattle.tso_core.specs.declared.Event.{Event}
 use Rattle.tso_core.specs.declared.offer.StepRefusal.{StepRefusal}
 use Rattle.tso_core.specs.declared.offer.StepRefusal.TheVariants.{NotEnabled, NoMemory}
+use Rattle.tso_core.specs.Least.{IsLeast, NonePasses}
 use Rattle.x86_table.specs.declared.instruction.Instr.{Instr}
 use Rattle.x86_table.specs.declared.instruction.Instr.TheVariants as instr
 use Rattle.x86_lang.specs.Assembly.{Assembly, heap_start}
@@ -13,17 +14,6 @@ use Rattle.x86_machine.specs.declared.choices.Asked.TheVariants as asked
 use Rattle.x86_machine.specs.declared.now.X86Out.{X86Out}
 use Rattle.x86_machine.specs.Target.{Thread, State, stacks_start, are_right, instruction_at, block_size, is_block_allowed, is_stack_allowed}
 use Rattle.x86_machine.specs.X86Tso.{Outcome, step, word_at_esp}
-
--- the least multiple of 16 from an address on that passes a test
-pub record IsLeast (from : ℕ) (test : ℕ → Bool) (base : ℕ) : Type 0 where
-  pub high : from ≤ base
-  pub multiple : base % 16 ≡ 0
-  pub passes : test base ≡ true
-  pub least : (x : ℕ) → from ≤ x → x % 16 ≡ 0 → test x ≡ true → base ≤ x
-
--- no multiple of 16 from an address on passes it
-abbrev pub NonePasses : (from : ℕ) → (ℕ → Bool) → Type 0
-NonePasses from test = (x : ℕ) → from ≤ x → x % 16 ≡ 0 → test x ≡ false
 
 -- the least, or 0 where there is none
 abbrev pub IsLeastOrZero : (from : ℕ) → (ℕ → Bool) → (base : ℕ) → Type 0

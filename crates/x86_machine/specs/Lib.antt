@@ -8,4 +8,3 @@ pub mod Machines
 pub mod Tables
 pub mod Programs
 pub mod Services
-pub mod Skips

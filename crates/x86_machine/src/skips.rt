@@ -6,7 +6,7 @@ ghost use Rattle.x86_lang.specs.Assembly.{heap_start};
 ghost use Rattle.x86_machine.specs.Kept.{threads_of};
 ghost use Rattle.x86_machine.specs.Target.{meets, is_block_allowed, is_stack_allowed, stacks_start, stack_size};
 ghost use Rattle.x86_machine.specs.Choices.{IsLeastOrZero};
-ghost use Rattle.x86_machine.specs.Skips.{Skips};
+ghost use Rattle.tso_core.specs.Least.{Skips};
 
 use crate::address_map::{HEAP_START, STACKS_END, STACKS_START};
 use crate::thread::{STACK_SIZE, Thread};

@@ -10,7 +10,8 @@ use Rattle.x86_machine.specs.declared.choices.Asked.{Asked}
 use Rattle.x86_machine.specs.declared.choices.Asked.TheVariants as asked
 use Rattle.x86_machine.specs.Target.{Thread, State, stacks_start, is_block_allowed, is_stack_allowed, block_size}
 use Rattle.x86_machine.specs.X86Tso.{step}
-use Rattle.x86_machine.specs.Choices.{IsLeast, NonePasses, IsLeastOrZero, IsDefault, IsChosen, Drained, Given, Missing, Default, asked_of}
+use Rattle.tso_core.specs.Least.{IsLeast, NonePasses}
+use Rattle.x86_machine.specs.Choices.{IsLeastOrZero, IsDefault, IsChosen, Drained, Given, Missing, Default, asked_of}
 use Rattle.x86_run.specs.Target.{Target, TargetGives, outcome_of}
 
 no_both : (b : Bool) → b ≡ true → b ≡ false → ⊥

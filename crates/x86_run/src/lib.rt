@@ -8,5 +8,7 @@ mod ends;
 pub mod laws;
 mod replaying;
 mod target;
+#[cfg(test)]
+mod tests;
 
 pub use replaying::replay_target;

@@ -1,6 +1,6 @@
 use Rattle.std.proofs.Common.{◌≡◌, ◌≤◌, ◌-◌, ◌%◌, ◌^◌, []}
 use Rattle.tso_memory.specs.Buffer.{objects_lifted}
-use Rattle.tso_machine.proofs.Least.{NoneBetween}
+use Rattle.tso_core.specs.Least.{NoneBetween}
 use Rattle.tso_machine.proofs.choices.least_block.Given as goal
 
 abbrev pub invariant-loop-x : goal.invariant-loop-x

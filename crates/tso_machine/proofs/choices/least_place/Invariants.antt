@@ -1,5 +1,6 @@
 use Rattle.std.proofs.Common.{◌≡◌, ◌≤◌, ◌-◌, ◌%◌, ◌^◌, map}
-use Rattle.tso_machine.proofs.Least.{NoneBetween, is_place_clear}
+use Rattle.tso_core.specs.Least.{NoneBetween}
+use Rattle.tso_machine.proofs.Least.{is_place_clear}
 use Rattle.tso_machine.proofs.choices.least_place.Given as goal
 
 abbrev pub invariant-loop-x : goal.invariant-loop-x

@@ -1,6 +1,6 @@
 use Rattle.std.proofs.Common.{◌≤◌, ◌^◌, take}
 use Rattle.tso_memory.specs.Buffer.{unplaced}
-use Rattle.tso_machine.specs.Skips.{Skips}
+use Rattle.tso_core.specs.Least.{Skips}
 use Rattle.tso_machine.proofs.skips.skip_items.Given as goal
 
 abbrev pub invariant-loop-k : goal.invariant-loop-k

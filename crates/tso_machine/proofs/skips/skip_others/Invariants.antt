@@ -1,7 +1,7 @@
 use Rattle.std.proofs.Common.{◌≤◌, ◌^◌, take}
 use Rattle.std.specs.List.{list_all}
 use Rattle.tso_memory.specs.Buffer.{unplaced}
-use Rattle.tso_machine.specs.Skips.{Skips}
+use Rattle.tso_core.specs.Least.{Skips}
 use Rattle.tso_machine.proofs.skips.skip_others.Given as goal
 
 abbrev pub invariant-loop-k : goal.invariant-loop-k

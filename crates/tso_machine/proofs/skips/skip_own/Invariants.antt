@@ -1,6 +1,6 @@
 use Rattle.std.proofs.Common.{◌≤◌, ◌^◌, drop, length}
 use Rattle.tso_memory.specs.Buffer.{places_lifted}
-use Rattle.tso_machine.specs.Skips.{Skips}
+use Rattle.tso_core.specs.Least.{Skips}
 use Rattle.tso_machine.proofs.skips.skip_own.Given as goal
 
 abbrev pub invariant-loop-k : goal.invariant-loop-k

@@ -1,5 +1,5 @@
 use Rattle.std.proofs.Common.{◌≡◌, ◌≤◌, ◌+◌, ◌-◌, ◌%◌, ◌==◌}
-use Rattle.tso_machine.proofs.Least.{NoneBetween}
+use Rattle.tso_core.specs.Least.{NoneBetween}
 use Rattle.tso_machine.proofs.skips.skip_to_aligned.Given as goal
 
 abbrev pub invariant-loop-at : goal.invariant-loop-at

@@ -1,7 +1,7 @@
 use Rattle.std.proofs.Common.{◌≡◌, ◌≤◌, ◌-◌, ◌%◌, ◌^◌, not}
 use Rattle.std.specs.List.{list_all}
 use Rattle.x86_machine.specs.Target.{meets}
-use Rattle.x86_machine.proofs.Least.{NoneBetween}
+use Rattle.tso_core.specs.Least.{NoneBetween}
 use Rattle.x86_machine.proofs.skips.least_block.Given as goal
 
 abbrev pub invariant-loop-x : goal.invariant-loop-x

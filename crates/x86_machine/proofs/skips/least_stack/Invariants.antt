@@ -2,7 +2,7 @@ use Rattle.std.proofs.Common.{◌≡◌, ◌≤◌, ◌-◌, ◌%◌, ◌^◌, n
 use Rattle.std.specs.List.{list_all}
 use Rattle.x86_machine.specs.Kept.{threads_of}
 use Rattle.x86_machine.specs.Target.{meets, stack_size}
-use Rattle.x86_machine.proofs.Least.{NoneBetween}
+use Rattle.tso_core.specs.Least.{NoneBetween}
 use Rattle.x86_machine.proofs.skips.least_stack.Given as goal
 
 abbrev pub invariant-loop-x : goal.invariant-loop-x

@@ -1,7 +1,7 @@
 use Rattle.std.proofs.Common.{◌≤◌, ◌^◌, take, not}
 use Rattle.std.specs.List.{list_all}
 use Rattle.x86_machine.specs.Target.{meets}
-use Rattle.x86_machine.specs.Skips.{Skips}
+use Rattle.tso_core.specs.Least.{Skips}
 use Rattle.x86_machine.proofs.skips.skip_blocks.Given as goal
 
 abbrev pub invariant-loop-k : goal.invariant-loop-k

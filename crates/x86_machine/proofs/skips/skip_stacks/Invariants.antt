@@ -2,7 +2,7 @@ use Rattle.std.proofs.Common.{◌≤◌, ◌^◌, take, not}
 use Rattle.std.specs.List.{list_all}
 use Rattle.x86_machine.specs.Kept.{threads_of}
 use Rattle.x86_machine.specs.Target.{meets, stack_size}
-use Rattle.x86_machine.specs.Skips.{Skips}
+use Rattle.tso_core.specs.Least.{Skips}
 use Rattle.x86_machine.proofs.skips.skip_stacks.Given as goal
 
 abbrev pub invariant-loop-k : goal.invariant-loop-k
