@@ -12,6 +12,3 @@ mod items;
 mod statement;
 
 pub use file::{NESTING_LIMIT, ReadFileRefusal, read_file};
-
-#[cfg(test)]
-mod tests;

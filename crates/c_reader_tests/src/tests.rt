@@ -1,7 +1,7 @@
 //! Small files, read or refused at their exact places.
 ghost use Rattle.std.specs.Prelude.{◌≤◌, length};
 
-use crate::{ReadFileRefusal, read_file};
+use c_reader::{ReadFileRefusal, read_file};
 use c_tree::print_file;
 use std::alloc::Global;
 use std::process::Abort;
