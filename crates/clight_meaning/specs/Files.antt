@@ -14,13 +14,16 @@ use Rattle.clight_types.specs.declared.rule.Rule.TheVariants as rule
 use Rattle.clight_types.specs.declared.rule.Fault.{Fault}
 use Rattle.clight_types.specs.Judged.{Judged, value, fault, and_then, unless, faults_of}
 use Rattle.clight_types.specs.Types.{Types, Shape, ArrayShape, StructShape, MemberOf, shape_at, size_at, body_at, body_members, value_at, is_scalar, is_struct, is_function, is_incomplete, integer_type, main_type}
-use Rattle.clight_types.specs.Applied.{value_chunk}
+use Rattle.clight_types.specs.WordOperators.{value_chunk}
 use Rattle.clight_types.specs.Constants.{constant_as}
-use Rattle.clight_types.specs.Scopes.{Spelling, same_name, Entity, ObjectEntity, FunctionEntity, EnumeratorEntity, TypedefEntity, BuiltinEntity, FileName, BlockName, Scene, first_scene, with_types, with_file_name, with_entity, is_builtin_name, builtin_named, builtin_type}
-use Rattle.clight_meaning.specs.Operands.{NoEffect, Typed, converts_to, is_struct_expression, results_at}
+use Rattle.clight_scopes.specs.Scopes.{Entity, ObjectEntity, FunctionEntity, EnumeratorEntity, TypedefEntity, BuiltinEntity, FileName, BlockName, Scene, first_scene, with_types, with_file_name, with_entity}
+use Rattle.clight_types.specs.Types.{Spelling, same_name}
+use Rattle.clight_calls.specs.Builtins.{is_builtin_name, builtin_named, builtin_type}
+use Rattle.clight_operands.specs.Operands.{NoEffect, Typed, converts_to, is_struct_expression}
+use Rattle.clight_calls.specs.Calls.{results_at}
 use Rattle.clight_types.specs.Declarators.{Built, ParameterOf, Part, FunctionPart, built_type, type_or}
-use Rattle.clight_meaning.specs.Typing.{typed, typed_all, specified, declared, declared_name, declared_at, name_or_empty, base_of, Clash, no_clash, defined_twice, other_thing, entity_of}
-use Rattle.clight_meaning.specs.Statements.{MadeList, Around, items_judged}
+use Rattle.clight_typing.specs.Typing.{typed, typed_all, specified, declared, declared_name, declared_at, name_or_empty, base_of, Clash, no_clash, defined_twice, other_thing, entity_of}
+use Rattle.clight_typing.specs.Statements.{MadeList, Around, items_judged}
 
 -- ## Declarations of a name
 

@@ -1,7 +1,3 @@
-pub mod Operands
-pub mod Typing
-pub mod Statements
 pub mod Files
 pub mod Counts
 pub mod Meaning
-pub mod Shown

@@ -14,10 +14,13 @@ use Rattle.clight_lang.specs.State.{FunctionOf}
 use Rattle.clight_lang.specs.Meaning.{ExternalOf, ProgramOf}
 use Rattle.clight_types.specs.declared.kind.Value.{Value}
 use Rattle.clight_types.specs.Types.{Types, shape_at, size_at, align_at, value_at, is_scalar, thread_function_type}
-use Rattle.clight_types.specs.Applied.{value_chunk, converted, applied}
-use Rattle.clight_types.specs.Scopes.{Spelling, same_name, Entity, ObjectEntity, FunctionEntity, FileName}
-use Rattle.clight_meaning.specs.Operands.{Callee, Inside, Outside, Provided, Source, FromValue, FromCall, Deed, NoDeed, CallDeed, AssignDeed, UpdateDeed, parameters_at}
-use Rattle.clight_meaning.specs.Statements.{Made, NothingMade, EvaluatedMade, DeedMade, BlockMade, BranchMade, WhileMade, DoMade, ForMade, SwitchMade, BreakMade, ContinueMade, ReturnMade, ReturnCallMade, MadeList, NoMade, AndMade, MadeGroups, NoGroups, AndGroup}
+use Rattle.clight_types.specs.WordOperators.{value_chunk}
+use Rattle.clight_operands.specs.Applied.{converted, applied}
+use Rattle.clight_scopes.specs.Scopes.{Entity, ObjectEntity, FunctionEntity, FileName}
+use Rattle.clight_types.specs.Types.{Spelling, same_name}
+use Rattle.clight_operands.specs.Operands.{Callee, Inside, Outside, Provided, Source, FromValue, FromCall, Deed, NoDeed, CallDeed, AssignDeed, UpdateDeed}
+use Rattle.clight_calls.specs.Calls.{parameters_at}
+use Rattle.clight_typing.specs.Statements.{Made, NothingMade, EvaluatedMade, DeedMade, BlockMade, BranchMade, WhileMade, DoMade, ForMade, SwitchMade, BreakMade, ContinueMade, ReturnMade, ReturnCallMade, MadeList, NoMade, AndMade, MadeGroups, NoGroups, AndGroup}
 use Rattle.clight_meaning.specs.Files.{FunctionMade, FileMade, main_name}
 use Rattle.clight_meaning.specs.Counts.{SizeOf, function_size, function_named}
 

@@ -1,14 +1,5 @@
-//! The faults and the meaning of a file's expressions, statements and declarations.
+//! The faults and the meaning of a file: what it declares and defines, its counts and its program.
 //!
-//! `specs/` has the definitions: `Operands` what each operator makes of its operands, `Typing` the
-//! expressions and the types in them, `Statements` and `Files` the rest of a file, `Counts` its
+//! `specs/` has the definitions: `Files` the declarations and definitions of a file, `Counts` its
 //! nodes, and `Meaning` its program.
 #![tactic(auto)]
-
-pub mod applied;
-pub mod assignments;
-pub mod operands;
-pub mod prefixed;
-pub mod typed;
-
-pub use typed::{Allowed, Callee, Deed, Naming, Source, Typed};

@@ -1,1 +1,3 @@
 pub mod TableLemmas
+pub mod Entries
+pub mod Parts

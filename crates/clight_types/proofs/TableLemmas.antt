@@ -1,8 +1,12 @@
 -- The table of types that the code keeps: where a shape stands in it, and where it is put.
-use Rattle.std.proofs.Common.{◌≡◌, Bool, true, false, cond, List, [], ◌∷◌, ◌++◌, map, refl, sym, ap, ◌∙◌}
+use Rattle.std.proofs.Common.{◌≡◌, ◌==◌, ◌&&◌, Bool, true, false, cond, List, [], ◌∷◌, ◌++◌, map, refl, sym, ap, ◌∙◌}
 use Rattle.std.specs.List.{list_any, position_or_len}
 use Rattle.clight_types.specs.contracts.types.ShapePartialEq.TheImpl.{eq-value}
 use Rattle.clight_types.specs.contracts.kind.IntegerPartialEq.TheImpl.{eq-value as integer_eq}
+use Rattle.clight_types.specs.contracts.kind.AlignmentPartialEq.TheImpl.{eq-value as align_eq}
+use Rattle.clight_types.specs.declared.kind.Alignment.{Alignment}
+use Rattle.clight_types.specs.declared.kind.Alignment.TheVariants as l
+use Rattle.clight_types.specs.Alignments.{bytes_in}
 use Rattle.clight_types.specs.declared.kind.Integer.{Integer}
 use Rattle.clight_types.specs.declared.kind.Integer.TheVariants as i
 use Rattle.clight_types.specs.declared.types.Shape.{Shape}
@@ -65,6 +69,17 @@ integer_eq_is i.UnsignedInt i.UnsignedShort = refl
 integer_eq_is i.UnsignedInt i.Int = refl
 integer_eq_is i.UnsignedInt i.UnsignedInt = refl
 
+align_eq_is : (a b : Alignment) → (align_eq).it a b ≡ (bytes_in a == bytes_in b)
+align_eq_is l.One l.One = refl
+align_eq_is l.One l.Two = refl
+align_eq_is l.One l.Four = refl
+align_eq_is l.Two l.One = refl
+align_eq_is l.Two l.Two = refl
+align_eq_is l.Two l.Four = refl
+align_eq_is l.Four l.One = refl
+align_eq_is l.Four l.Two = refl
+align_eq_is l.Four l.Four = refl
+
 pub shape_eq_is : (a b : Shape) → (eq-value).it a b ≡ t.same_shape (shape_of a) (shape_of b)
 shape_eq_is s.Void s.Void = refl
 shape_eq_is s.Void (s.Integer b) = refl
@@ -87,7 +102,7 @@ shape_eq_is (s.Pointer a) (s.Function b qs) = refl
 shape_eq_is (s.Array a n z l) s.Void = refl
 shape_eq_is (s.Array a n z l) (s.Integer b) = refl
 shape_eq_is (s.Array a n z l) (s.Pointer b) = refl
-shape_eq_is (s.Array a n z l) (s.Array b m y k) = refl
+shape_eq_is (s.Array a n z l) (s.Array b m y k) = ap (λ e. a == b && (n == m && (z == y && e))) (align_eq_is l k)
 shape_eq_is (s.Array a n z l) (s.Struct b) = refl
 shape_eq_is (s.Array a n z l) (s.Function b qs) = refl
 shape_eq_is (s.Struct a) s.Void = refl

@@ -12,7 +12,7 @@ use Rattle.clight_types.specs.declared.kind.Value.{Value}
 use Rattle.clight_types.specs.declared.kind.Value.TheVariants as v
 use Rattle.clight_types.specs.declared.kind.Constant.{Constant}
 use Rattle.clight_types.specs.declared.kind.Constant.TheVariants.{No, WithoutValue, Known}
-use Rattle.clight_types.specs.Applied.{word_operator, integer_cast}
+use Rattle.clight_types.specs.WordOperators.{word_operator, integer_cast}
 
 -- a constant that an operator answers
 abbrev pub answered : Option Val → Constant

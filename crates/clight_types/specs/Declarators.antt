@@ -1,7 +1,6 @@
 -- What a declarator makes of the type that its specifiers give (ISO C99 6.7.5): pointers, arrays and functions, from the outermost part on.
 use Rattle.std.specs.Prelude.{ℕ, ◌*◌, Bool, true, false, ◌||◌, not, nat_lt, List, [], ◌∷◌, map, Option, Some, None, if◌then◌else◌}
-use Rattle.clight_types.specs.Types.{Types, Shape, PointerShape, FunctionShape, ArrayShape, with_shape, shape_at, array_shape, size_at, is_function, is_function_shape, is_array_shape, is_incomplete, is_struct, type_limit}
-use Rattle.clight_types.specs.Scopes.{Spelling}
+use Rattle.clight_types.specs.Types.{Spelling, Types, Shape, PointerShape, FunctionShape, ArrayShape, with_shape, shape_at, array_shape, size_at, is_function, is_function_shape, is_array_shape, is_incomplete, is_struct, type_limit}
 
 -- the length of an array: left out, not one that an array may have, or a number
 pub data Length : Type 0 where

@@ -1,10 +1,11 @@
 pub mod Rules
 pub mod Judged
 pub mod Types
+pub mod Alignments
 pub mod Conversions
-pub mod Applied
+pub mod WordOperators
 pub mod Constants
-pub mod Scopes
 pub mod Declarators
 pub mod Table
+pub mod LaidOf
 pub mod BuiltOf

@@ -7,6 +7,12 @@ use Rattle.clight_types.specs.declared.kind.Integer.TheVariants.{Char, UnsignedC
 use Rattle.clight_types.specs.declared.kind.Value.{Value}
 use Rattle.clight_types.specs.declared.kind.Value.TheVariants as v
 
+abbrev pub Spelling : Type 0
+Spelling = List ℕ
+
+abbrev pub same_name : Spelling → Spelling → Bool
+same_name = pointwise nat_eq
+
 -- what a type is made of; an array has its element's type and its length, and the size and the alignment of the whole
 pub data Shape : Type 0 where
   VoidShape : Shape
@@ -19,7 +25,7 @@ pub data Shape : Type 0 where
   FunctionShape : ℕ → List ℕ → Shape
 
 pub record MemberOf : Type 0 where
-  pub name : List ℕ
+  pub name : Spelling
   pub offset : ℕ
   pub type : ℕ
 
@@ -134,7 +140,7 @@ nothing_laid = record { size = 0; align = 1; members = [] }
 abbrev pub next_offset : Types → Laid → ℕ → ℕ
 next_offset types laid t = aligned laid.size (align_at types t)
 
-abbrev pub laid_with : Types → Laid → List ℕ → ℕ → Laid
+abbrev pub laid_with : Types → Laid → Spelling → ℕ → Laid
 laid_with types laid name t = record { size = next_offset types laid t + size_at types t; align = max laid.align (align_at types t); members = laid.members ++ (record { name = name; offset = next_offset types laid t; type = t }) ∷ [] }
 
 abbrev pub closed_body : Laid → BodyOf
@@ -214,19 +220,19 @@ abbrev pub value_at : Types → ℕ → Value
 value_at types t = shape_value t (shape_at types t)
 
 -- the member of a struct with a name
-abbrev pub named_member : List ℕ → List MemberOf → Option MemberOf
-named_member name members = find (λ m. pointwise nat_eq m.name name) members
+abbrev pub named_member : Spelling → List MemberOf → Option MemberOf
+named_member name members = find (λ m. same_name name m.name) members
 
 abbrev pub body_members : BodyOf → List MemberOf
 body_members Open = []
 body_members (Closed size align members) = members
 
 -- the member of the type of an object
-abbrev pub shape_member : Types → List ℕ → Shape → Option MemberOf
+abbrev pub shape_member : Types → Spelling → Shape → Option MemberOf
 shape_member types name (StructShape n) = named_member name (body_members (body_at types n))
 shape_member types name _ = None
 
-abbrev pub member_at : Types → ℕ → List ℕ → Option MemberOf
+abbrev pub member_at : Types → ℕ → Spelling → Option MemberOf
 member_at types t name = shape_member types name (shape_at types t)
 
 -- ## The types that stand in each table
@@ -264,10 +270,14 @@ exit_type = 13
 abbrev pub main_type : ℕ
 main_type = 14
 
-abbrev pub first_shapes : List Shape
-first_shapes =
-    VoidShape ∷ IntegerShape Char ∷ IntegerShape UnsignedChar ∷ IntegerShape Short ∷ IntegerShape UnsignedShort ∷ IntegerShape Int ∷ IntegerShape UnsignedInt
-    ∷ PointerShape 0 ∷ FunctionShape 0 (7 ∷ []) ∷ PointerShape 8 ∷ FunctionShape 5 (9 ∷ 7 ∷ []) ∷ FunctionShape 0 [] ∷ FunctionShape 7 (6 ∷ []) ∷ FunctionShape 0 (5 ∷ []) ∷ FunctionShape 5 [] ∷ []
+abbrev pub scalar_shapes : List Shape
+scalar_shapes = VoidShape ∷ IntegerShape Char ∷ IntegerShape UnsignedChar ∷ IntegerShape Short ∷ IntegerShape UnsignedShort ∷ IntegerShape Int ∷ IntegerShape UnsignedInt ∷ []
+
+abbrev pub builtin_shapes : List Shape
+builtin_shapes = PointerShape 0 ∷ FunctionShape 0 (7 ∷ []) ∷ PointerShape 8 ∷ FunctionShape 5 (9 ∷ 7 ∷ []) ∷ FunctionShape 0 [] ∷ FunctionShape 7 (6 ∷ []) ∷ FunctionShape 0 (5 ∷ []) ∷ FunctionShape 5 [] ∷ []
+
+abbrev pub no_types : Types
+no_types = record { shapes = []; structs = [] }
 
 abbrev pub first_types : Types
-first_types = record { shapes = first_shapes; structs = [] }
+first_types = record { shapes = scalar_shapes ++ builtin_shapes; structs = [] }

@@ -2,7 +2,7 @@
 
 ghost use Rattle.std.specs.Prelude.{◌≡◌, if◌then◌else◌};
 ghost use Rattle.c_tree.specs.Shape.{binary_of, number_of};
-ghost use Rattle.clight_types.specs.Applied.{word_operator, are_unsigned, shifted_unsigned, integer_cast, integer_chunk, value_chunk};
+ghost use Rattle.clight_types.specs.WordOperators.{word_operator, are_unsigned, shifted_unsigned, integer_cast, integer_chunk, value_chunk};
 ghost use Rattle.clight_types.specs.Constants.{answered, constant_one, constant_two, truth_of, negated, constant_and, constant_or, constant_choice, constant_operated, constant_as, number_type, number_word, is_allowed_number};
 
 use crate::conversions::common;

@@ -43,12 +43,14 @@ pub fn is_scalar_value(x: Value) -> bool
     matches!(x, Value::Integer(_) | Value::Pointer(_))
 }
 
+/// Whether the value is an integer.
 pub fn is_integer_value(x: Value) -> bool
     ensures { result ≡ is_integer_value x }
 {
     matches!(x, Value::Integer(_))
 }
 
+/// Whether the value is a struct.
 pub fn is_struct_value(x: Value) -> bool
     ensures { result ≡ is_struct_value x }
 {

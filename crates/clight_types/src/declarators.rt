@@ -1,13 +1,14 @@
 //! What a declarator makes of the type that its specifiers give.
 
-ghost use Rattle.std.specs.Prelude.{◌≡◌, ◌+◌, ◌*◌, min, nat_lt, IfOk};
+ghost use Rattle.std.specs.Prelude.{◌≡◌, ◌+◌, ◌*◌, min, nat_lt, map, IfOk};
 ghost use Rattle.clight_types.specs.Table.{shape_of, types_of};
-ghost use Rattle.clight_types.specs.Types.{array_shape, size_at, type_limit};
-ghost use Rattle.clight_types.specs.Declarators.{shaped, with_bad_array, is_no_element, with_elements, with_open_array, with_array};
-ghost use Rattle.clight_types.specs.BuiltOf.{built_of, length_of};
+ghost use Rattle.clight_types.specs.Types.{array_shape, size_at, type_limit, is_array_shape, shape_at};
+ghost use Rattle.clight_types.specs.Declarators.{shaped, refused, begun, with_function, with_bad_array, is_no_element, with_elements, with_open_array, with_array, with_part, part_onto, built_of as built_from, adjusted, built_parameter, built_type, type_or};
+ghost use Rattle.clight_types.specs.BuiltOf.{built_of, length_of, parameter_of, part_of, types_in};
 
 use crate::types::{Shape, Types};
-use tso_words::NoMemory;
+use std::alloc::{AllocError, Global};
+use tso_words::{Name, NoMemory};
 
 /// No type has more bytes.
 pub const TYPE_LIMIT: u32 = 16_777_216;
@@ -18,6 +19,22 @@ pub enum Length {
     Missing,
     Bad,
     Elements(u32),
+}
+
+/// A parameter: its name, where it has one, its place and its type.
+#[derive(Drop)]
+pub struct Parameter {
+    pub name: Option<Name>,
+    pub at: u32,
+    pub type_number: usize,
+}
+
+/// A part of a declarator.
+#[derive(Drop)]
+pub enum Part {
+    Pointer,
+    Array(Length),
+    Function(Vec<Parameter>),
 }
 
 /// The type that parts of a declarator have made so far, where there is one, and what was wrong on
@@ -143,4 +160,176 @@ pub fn with_array(
         Length::Bad => Ok(with_bad_array(types, b, t, true)),
         Length::Elements(n) => with_elements(types, b, t, n),
     }
+}
+
+/// The types of parameters, in order.
+fn types_in(alloc: Global, parameters: &[Parameter]) -> Result<Vec<usize>, NoMemory>
+    ensures { IfOk result (λ types. types.items ≡ types_in parameters.now) }
+{
+    let mut types = Vec::new(alloc);
+    for parameter in parameters {
+        types.push(parameter.type_number).map_err(AllocError::from)?;
+    }
+    Ok(types)
+}
+
+fn is_array(types: &Types, t: usize) -> bool
+    ensures { result ≡ is_array_shape (shape_at (types_of types.now) t) }
+{
+    matches!(types.shape(t), Some(Shape::Array { .. }))
+}
+
+fn refused(b: Built) -> Built
+    ensures { (t : _) → built_of t result ≡ refused (built_of t b) }
+{
+    Built {
+        type_number: None,
+        has_incomplete: b.has_incomplete,
+        is_wrong: true,
+        is_large: b.is_large,
+        gives_struct: b.gives_struct,
+    }
+}
+
+/// A function that gives the type so far.
+fn with_function(
+    alloc: Global,
+    types: &mut Types,
+    b: Built,
+    t: usize,
+    parameters: &[Parameter],
+) -> Result<Built, NoMemory>
+    ensures { IfOk result (λ r. with_function (built_of types.old b) t (map parameter_of parameters.now) ≡ built_of types.new r) }
+{
+    if types.is_function(t) || is_array(types, t) {
+        return Ok(refused(b));
+    }
+    let gives_struct = b.gives_struct || types.is_struct(t);
+    let shape = Shape::Function {
+        result: t,
+        parameters: types_in(alloc, parameters)?,
+    };
+    let function = shaped(types, b, shape)?;
+    Ok(Built {
+        type_number: function.type_number,
+        has_incomplete: function.has_incomplete,
+        is_wrong: function.is_wrong,
+        is_large: function.is_large,
+        gives_struct,
+    })
+}
+
+fn with_part(
+    alloc: Global,
+    types: &mut Types,
+    b: Built,
+    t: usize,
+    excused: bool,
+    part: &Part,
+) -> Result<Built, NoMemory>
+    ensures { IfOk result (λ r. with_part (built_of types.old b) t excused (part_of part.now) ≡ built_of types.new r) }
+{
+    match part {
+        Part::Pointer => with_pointer(types, b, t),
+        Part::Array(length) => with_array(types, b, t, excused, *length),
+        Part::Function(parameters) => with_function(alloc, types, b, t, parameters),
+    }
+}
+
+fn part_onto(
+    alloc: Global,
+    types: &mut Types,
+    b: Built,
+    excused: bool,
+    part: &Part,
+) -> Result<Built, NoMemory>
+    ensures { IfOk result (λ r. part_onto (built_of types.old b) b.type_number excused (part_of part.now) ≡ built_of types.new r) }
+{
+    match b.type_number {
+        Some(t) => with_part(alloc, types, b, t, excused, part),
+        None => Ok(b),
+    }
+}
+
+fn begun(base: usize) -> Built
+    ensures { (t : _) → built_of t result ≡ begun (types_of t) base }
+{
+    Built {
+        type_number: Some(base),
+        has_incomplete: false,
+        is_wrong: false,
+        is_large: false,
+        gives_struct: false,
+    }
+}
+
+/// The type that the parts make of a base, from the outermost part on. The last part of a parameter
+/// may be an array without a length.
+fn built_from(
+    alloc: Global,
+    types: &mut Types,
+    is_parameter: bool,
+    base: usize,
+    parts: &[Part],
+) -> Result<Built, NoMemory>
+    ensures { IfOk result (λ r. built_from is_parameter (begun (types_of types.old) base) (map part_of parts.now) ≡ built_of types.new r) }
+{
+    let mut b = begun(base);
+    let mut left = parts.len();
+    for part in parts {
+        left -= 1;
+        b = part_onto(alloc, types, b, is_parameter && left == 0, part)?;
+    }
+    Ok(b)
+}
+
+/// The type of a declared name.
+pub fn built_type(
+    alloc: Global,
+    types: &mut Types,
+    base: usize,
+    parts: &[Part],
+) -> Result<Built, NoMemory>
+    ensures { IfOk result (λ r. built_type (types_of types.old) base (map part_of parts.now) ≡ built_of types.new r) }
+{
+    built_from(alloc, types, false, base, parts)
+}
+
+/// An array parameter is a pointer to its element, a function one to it.
+fn adjusted(types: &mut Types, b: Built) -> Result<Built, NoMemory>
+    ensures { IfOk result (λ r. adjusted (built_of types.old b) b.type_number ≡ built_of types.new r) }
+{
+    let Some(t) = b.type_number else {
+        return Ok(b);
+    };
+    match types.shape(t) {
+        Some(Shape::Array { element, .. }) => {
+            let element = *element;
+            shaped(types, b, Shape::Pointer(element))
+        }
+        Some(Shape::Function { .. }) => shaped(types, b, Shape::Pointer(t)),
+        Some(Shape::Void | Shape::Integer(_) | Shape::Pointer(_) | Shape::Struct(_)) | None => {
+            Ok(b)
+        }
+    }
+}
+
+/// The type of a parameter.
+pub fn built_parameter(
+    alloc: Global,
+    types: &mut Types,
+    base: usize,
+    parts: &[Part],
+) -> Result<Built, NoMemory>
+    ensures { IfOk result (λ r. built_parameter (types_of types.old) base (map part_of parts.now) ≡ built_of types.new r) }
+{
+    let b = built_from(alloc, types, true, base, parts)?;
+    adjusted(types, b)
+}
+
+/// What stands for a type that could not be built.
+pub fn type_or(built: Option<usize>, other: usize) -> usize
+    ensures { result ≡ type_or built other }
+{
+    built.unwrap_or(other)
 }

@@ -6,9 +6,12 @@ pub mod constants;
 pub mod conversions;
 pub mod declarators;
 pub mod kind;
+pub mod laid;
+pub mod layout;
 pub mod rule;
 pub mod types;
 
-pub use kind::{Constant, Denoted, Integer, Value};
+pub use kind::{Alignment, Constant, Denoted, Integer, Value};
+pub use laid::{Laid, Member};
 pub use rule::{Fault, Refusal, Rule, owed};
-pub use types::{Body, Member, Shape, Types};
+pub use types::{Body, Shape, Types};

@@ -1,0 +1,5 @@
+pub mod Builtins
+pub mod Names
+pub mod Members
+pub mod Calls
+pub mod Passing
