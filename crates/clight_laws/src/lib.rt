@@ -1,0 +1,4 @@
+//! What holds of each program that a file means.
+#![tactic(auto)]
+
+pub mod laws;
