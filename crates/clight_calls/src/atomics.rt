@@ -109,7 +109,7 @@ fn atomic_of(
     owed(may_stand(allowed, true), Rule::EffectPlace, op_at)?;
     let values = passed(alloc, types, pointer, others, takes)?;
     let deed = Deed::Call(Callee::Provided(builtin), values, target);
-    Ok(doing(at, target, deed))
+    Ok(doing(alloc, at, target, deed)?)
 }
 
 /// A call of an atomic, by what its pointer points to.

@@ -124,7 +124,7 @@ fn call_by(
     owed(may_stand(allowed, true), Rule::EffectPlace, op_at)?;
     let callee = callee_of(alloc, types, t, f)?;
     let values = arguments(alloc, types, args, takes)?;
-    Ok(doing(at, gives, Deed::Call(callee, values, gives)))
+    Ok(doing(alloc, at, gives, Deed::Call(callee, values, gives))?)
 }
 
 /// A call of a function of a type, where it is one.

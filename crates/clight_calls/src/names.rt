@@ -12,7 +12,7 @@ use crate::builtins::builtin_named;
 use clight_lang::expression::Expr;
 use clight_lang::statement::Builtin;
 use clight_operands::operands::{plain, refused};
-use clight_operands::typed::{Deed, Naming, Typed};
+use clight_operands::typed::{Naming, Typed};
 use clight_scopes::{Entity, Scene};
 use clight_types::conversions::INT;
 use clight_types::{Constant, Denoted, Refusal, Rule, Value, owed};
@@ -27,7 +27,7 @@ fn named(at: u32, denoted: Denoted, naming: Naming, meaning: Expr) -> Typed
         constant: Constant::No,
         naming,
         meaning,
-        deed: Deed::Nothing,
+        deed: None,
     }
 }
 

@@ -197,7 +197,7 @@ module _ (file : FileTree) (made : FileMade) (f : FunctionMade) where
           let b : statements_weight body.0 ≤ 9 * items = bounded.weight in
           omega arith
 
-      needed : (sum_by (λ l. l.size) memory + 4 * body.1) + 64 * nodes + 56 ≤ (64 + (function_size file made f.name f.type).bytes + 64 * nodes) + 16 * nodes
+      needed : (sum_by (λ l. l.size) memory + 4 * body.1) + 64 * nodes + 56 ≤ (56 + (function_size file made f.name f.type).bytes + 64 * nodes) + 16 * nodes
       needed =
           let a : nodes ≡ declarator_nodes matched.definition.declarator + (f.parameters + (1 + items)) = nodes_are in
           let b : body.1 ≤ (length f.locals - length memory) + 2 * items = bounded.fresh in

@@ -9,6 +9,7 @@ use Rattle.tso_words.specs.declared.operator.Op.TheVariants as op
 use Rattle.tso_words.specs.declared.operator.Cond.TheVariants as cond
 use Rattle.clight_lang.specs.Syntax.{Const, Temp, LocalAddr, GlobalAddr, Read, Binary, Statements, Nil, Cons, Skip, Set, Store, External, Block, If, Loop, Break, Return}
 use Rattle.clight_lang.specs.Meaning.{ProgramOf}
+use Rattle.clight_lang.specs.MainAlone.{returned}
 use Rattle.clight_types.specs.Judged.{made_of}
 use Rattle.clight_meaning.specs.Files.{file_judged, file_faults}
 use Rattle.clight_meaning.specs.Meaning.{program_meant}
@@ -100,6 +101,29 @@ never_defined = refl
 -- int main(void) { float x; return y; }
 two_faults : first_fault (file_faults 37 (function_external 0 (specs (words_specifier 0 (k.Int ∷ [])) no_specs) (function_of (named 4 (codes "main")) no_parameter_trees) 15 (decl_item (decl_tree 17 (specs (words_specifier 17 (k.Float ∷ [])) no_specs) (init_tree (named 23 (codes "x")) no_init ∷ [])) (stmt_item (return_stmt 26 (Some (name_expr 33 (codes "y")))) no_item_trees)) ∷ [])) ≡ Some (1, 17)
 two_faults = refl
+
+-- int main(void) { return 7; }
+abbrev seven : FileTree
+seven = function_external 0 (specs (words_specifier 0 (k.Int ∷ [])) no_specs) (function_of (named 4 (codes "main")) no_parameter_trees) 15 (stmt_item (return_stmt 17 (Some (constant_expr 24 (k.Decimal 7)))) no_item_trees) ∷ []
+
+-- int f(int n) { return f(n); } int main(void) { return f(0); }
+abbrev recursive : FileTree
+recursive =
+    function_external 0 (specs (words_specifier 0 (k.Int ∷ [])) no_specs) (function_of (named 4 (codes "f")) (parameter_trees 6 (specs (words_specifier 6 (k.Int ∷ [])) no_specs) (named 10 (codes "n")) no_parameter_trees)) 13 (stmt_item (return_stmt 15 (Some (call_expr 22 23 (name_expr 22 (codes "f")) (exprs (name_expr 24 (codes "n")) no_exprs)))) no_item_trees)
+    ∷ function_external 30 (specs (words_specifier 30 (k.Int ∷ [])) no_specs) (function_of (named 34 (codes "main")) no_parameter_trees) 45 (stmt_item (return_stmt 47 (Some (call_expr 54 55 (name_expr 54 (codes "f")) (exprs (constant_expr 56 (k.Decimal 0)) no_exprs)))) no_item_trees) ∷ []
+
+-- int main(void) { return 7; }
+gives_seven : program_meant seven (made_of (file_judged 28 seven)) ≡ Some (returned 7)
+gives_seven = refl
+
+-- the frame that each function of a program states, and the bytes that it needs
+abbrev rooms : Option ProgramOf → List (ℕ × ℕ × ℕ)
+rooms None = []
+rooms (Some p) = map (λ f. (f.room.nodes, f.room.stated, f.room.needed)) p.functions
+
+-- int f(int n) { return f(n); } int main(void) { return f(0); }
+calls_itself : rooms (program_meant recursive (made_of (file_judged 61 recursive))) ≡ (6, 444, 8) ∷ (5, 376, 4) ∷ []
+calls_itself = refl
 
 -- int x; int main(void) { int y; y = x + 1; x = y; return y; }
 adds_one : program_in 60 (decl_external (decl_tree 0 (specs (words_specifier 0 (k.Int ∷ [])) no_specs) (init_tree (named 4 (codes "x")) no_init ∷ [])) ∷ function_external 7 (specs (words_specifier 7 (k.Int ∷ [])) no_specs) (function_of (named 11 (codes "main")) no_parameter_trees) 22 (decl_item (decl_tree 24 (specs (words_specifier 24 (k.Int ∷ [])) no_specs) (init_tree (named 28 (codes "y")) no_init ∷ [])) (stmt_item (expr_stmt 31 (assign_expr 31 33 k.Equals (name_expr 31 (codes "y")) (binary_expr 35 37 k.Plus (name_expr 35 (codes "x")) (constant_expr 39 (k.Decimal 1))))) (stmt_item (expr_stmt 42 (assign_expr 42 44 k.Equals (name_expr 42 (codes "x")) (name_expr 46 (codes "y")))) (stmt_item (return_stmt 49 (Some (name_expr 56 (codes "y")))) no_item_trees)))) ∷ []) ≡ Some ((((codes "main"), 0, 0, 1, 14, ([]), ([]), ([]), (Cons (Set 0 (Binary op.Add (Read chunk.I32 (GlobalAddr (codes "x"))) (Const 1))) (Cons (Store chunk.I32 (GlobalAddr (codes "x")) (Temp 0)) (Cons (Return (Some (Temp 0))) Nil)))) ∷ []), (((codes "x"), 4, 4, ([])) ∷ []), (0 ∷ []), ([]))

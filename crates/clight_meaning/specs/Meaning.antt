@@ -257,9 +257,9 @@ abbrev pub memory_locals : Types → FunctionMade → List ℕ → List Local
 memory_locals types f [] = []
 memory_locals types f (n ∷ ns) = if is_in_memory types f n then (record { size = size_at types (unwrap_or (slice_get f.locals n) 0); align = align_at types (unwrap_or (slice_get f.locals n) 0) }) ∷ memory_locals types f ns else memory_locals types f ns
 
--- the frame that the program states: 64 bytes, the parameters and locals, and 64 bytes for each node
+-- the frame that the program states is its bound less 8: the bound is 64 bytes, the parameters and locals, and 64 bytes for each node
 abbrev pub room_of : SizeOf → List Local → ℕ → Room
-room_of z locals temps = record { nodes = z.nodes; stated = 64 + z.bytes + 64 * z.nodes; needed = sum_by (λ l. l.size) locals + 4 * temps }
+room_of z locals temps = record { nodes = z.nodes; stated = 56 + z.bytes + 64 * z.nodes; needed = sum_by (λ l. l.size) locals + 4 * temps }
 
 abbrev pub function_meant : FileTree → FileMade → FunctionMade → FunctionOf
 function_meant file made f =

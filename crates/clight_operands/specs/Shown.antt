@@ -1,5 +1,6 @@
 -- Which judged expression a value of the code's types is: the same with plain trees.
-use Rattle.std.specs.Prelude.{List, map}
+use Rattle.std.specs.Prelude.{List, Option, Some, None, Box, map}
+use Rattle.std.specs.declared.alloc.Global.{Global}
 use Rattle.c_tree.specs.Shape.{binary_of}
 use Rattle.clight_lang.specs.Syntax.{expression_of}
 use Rattle.clight_operands.specs.declared.typed.Allowed.{Allowed}
@@ -36,13 +37,16 @@ source_of (source.Value e) = o.FromValue (expression_of e)
 source_of (source.Call f args x) = o.FromCall (callee_of f) (map expression_of args.items) x
 
 abbrev pub deed_of : Deed → o.Deed
-deed_of deed.Nothing = o.NoDeed
 deed_of (deed.Call f args x) = o.CallDeed (callee_of f) (map expression_of args.items) x
 deed_of (deed.Assign a to s) = o.AssignDeed (expression_of a) to (source_of s)
 deed_of (deed.Update a to op other e given) = o.UpdateDeed (expression_of a) to (binary_of op) other (expression_of e) given
 
+abbrev pub deed_in : Option (Box Deed Global) → o.Deed
+deed_in None = o.NoDeed
+deed_in (Some d) = deed_of d.value
+
 abbrev pub typed_of : Typed → o.Typed
-typed_of x = record { at = x.at; denoted = x.denoted; constant = x.constant; naming = naming_of x.naming; meaning = expression_of x.meaning; deed = deed_of x.deed }
+typed_of x = record { at = x.at; denoted = x.denoted; constant = x.constant; naming = naming_of x.naming; meaning = expression_of x.meaning; deed = deed_in x.deed }
 
 abbrev pub all_typed : List Typed → List o.Typed
 all_typed xs = map typed_of xs

@@ -72,17 +72,18 @@ fn choice(alloc: Global, test: Expr, x: Expr, y: Expr) -> Result<Expr, NoMemory>
 }
 
 /// An expression with an effect.
-pub fn doing(at: u32, value: Value, deed: Deed) -> Typed
-    ensures { typed_of result ≡ doing at value (deed_of deed) }
+pub fn doing(alloc: Global, at: u32, value: Value, deed: Deed) -> Result<Typed, NoMemory>
+    ensures { IfOk result (λ r. typed_of r ≡ doing at value (deed_of deed)) }
 {
-    Typed {
+    let deed = Box::new(alloc, deed).map_err(AllocError::from)?;
+    Ok(Typed {
         at,
         denoted: Denoted::Value(value),
         constant: Constant::No,
         naming: Naming::Nothing,
         meaning: Expr::Const(0),
-        deed,
-    }
+        deed: Some(deed),
+    })
 }
 
 /// What an assignment stores: a call keeps its arguments, and its value is converted when it comes.
@@ -97,14 +98,14 @@ fn source_of(alloc: Global, types: &Types, to: Value, b: Typed) -> Result<Source
         meaning,
         deed,
     } = b;
-    match deed {
-        Deed::Call(callee, arguments, value) => Ok(Source::Call(callee, arguments, value)),
-        Deed::Nothing | Deed::Assign(..) | Deed::Update { .. } => {
-            let from = value_of(types, denoted);
-            let read = read_of(alloc, types, denoted, meaning)?;
-            Ok(Source::Value(converted(alloc, from, to, read)?))
+    if let Some(deed) = deed {
+        if let Deed::Call(callee, arguments, value) = Box::into_inner(deed) {
+            return Ok(Source::Call(callee, arguments, value));
         }
     }
+    let from = value_of(types, denoted);
+    let read = read_of(alloc, types, denoted, meaning)?;
+    Ok(Source::Value(converted(alloc, from, to, read)?))
 }
 
 /// `=`.
@@ -129,7 +130,7 @@ pub fn assign_typed(
     owed(converts_to(types, to, &b), Rule::NeedsCast, b.at)?;
     owed(may_stand(allowed, false), Rule::EffectPlace, op_at)?;
     let source = source_of(alloc, types, to, b)?;
-    Ok(doing(at, to, Deed::Assign(a.meaning, to, source)))
+    Ok(doing(alloc, at, to, Deed::Assign(a.meaning, to, source))?)
 }
 
 /// A compound assignment.
@@ -156,18 +157,15 @@ pub fn update_typed(
     )?;
     owed(may_stand(allowed, false), Rule::EffectPlace, op_at)?;
     let operand = read_of(alloc, types, b.denoted, b.meaning)?;
-    Ok(doing(
-        at,
+    let deed = Deed::Update {
+        place: a.meaning,
         value,
-        Deed::Update {
-            place: a.meaning,
-            value,
-            operator,
-            other,
-            operand,
-            given: given.unwrap_or(value),
-        },
-    ))
+        operator,
+        other,
+        operand,
+        given: given.unwrap_or(value),
+    };
+    Ok(doing(alloc, at, value, deed)?)
 }
 
 /// `++` and `--`.

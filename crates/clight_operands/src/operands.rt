@@ -10,7 +10,7 @@ ghost use Rattle.clight_operands.specs.Operands.{plain, denoted_value, read_of, 
 ghost use Rattle.clight_operands.specs.Shown.{typed_of};
 
 use crate::applied::{applied, binary, converted};
-use crate::typed::{Deed, Naming, Typed};
+use crate::typed::{Naming, Typed};
 use c_tree::{BinaryOperator, Number};
 use clight_lang::expression::Expr;
 use clight_types::constants::{
@@ -32,7 +32,7 @@ pub fn plain(at: u32, denoted: Denoted, constant: Constant, meaning: Expr) -> Ty
         constant,
         naming: Naming::Nothing,
         meaning,
-        deed: Deed::Nothing,
+        deed: None,
     }
 }
 

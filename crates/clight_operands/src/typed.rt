@@ -44,7 +44,6 @@ pub enum Source {
 /// What an expression with an effect does.
 #[derive(Drop)]
 pub enum Deed {
-    Nothing,
     /// A call with its arguments and the type of its value.
     Call(Callee, Vec<Expr>, Value),
     /// An assignment to a place of a type.
@@ -62,7 +61,7 @@ pub enum Deed {
 }
 
 /// An expression, without faults. Its meaning is its value, and its address where it stands for an
-/// object or a function.
+/// object or a function. Few expressions do something, so what they do is apart.
 #[derive(Drop)]
 pub struct Typed {
     pub at: u32,
@@ -70,5 +69,5 @@ pub struct Typed {
     pub constant: Constant,
     pub naming: Naming,
     pub meaning: Expr,
-    pub deed: Deed,
+    pub deed: Option<Box<Deed>>,
 }
