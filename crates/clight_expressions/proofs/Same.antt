@@ -1,5 +1,5 @@
 -- What is judged of a tree that is borrowed is what is judged of the tree.
-use Rattle.std.proofs.Common.{◌≡◌, ℕ, Bool, List, Option, None, Result, refl, sym, ap, subst}
+use Rattle.std.proofs.Common.{◌≡◌, ℕ, Bool, List, None, ap}
 use Rattle.c_tree.specs.Shape.{expr_of, exprs_of, type_of, specifiers_of, members_of, declarators_of, enumerators_of, declarator_of, parameters_of}
 use Rattle.c_tree.specs.declared.expr.Expr.{Expr}
 use Rattle.c_tree.specs.declared.expr.TypeName.{TypeName}
@@ -8,8 +8,6 @@ use Rattle.c_tree.specs.declared.expr.Member.{Member}
 use Rattle.c_tree.specs.declared.expr.Declarator.{Declarator}
 use Rattle.c_tree.specs.declared.expr.Enumerator.{Enumerator}
 use Rattle.c_tree.specs.declared.expr.Parameter.{Parameter}
-use Rattle.clight_types.specs.declared.rule.Refusal.{Refusal}
-use Rattle.clight_types.specs.Judged.{Judged, Judges}
 use Rattle.clight_types.specs.Types.{Laid, nothing_laid}
 use Rattle.clight_scopes.specs.Scopes.{Scene}
 use Rattle.clight_operands.specs.Operands.{Allowed}
@@ -41,6 +39,3 @@ same_parameters own s x y is = ap (λ z. parameters_judged own s (parameters_of 
 
 pub same_declared : (s : Scene) (own : Bool) (x y : Declarator) → x ≡ y → declared s own (declarator_of x) ≡ declared s own (declarator_of y)
 same_declared s own x y is = ap (λ z. declared s own (declarator_of z)) is
-
-pub judged_as : {A B : Type 0} (j k : Judged A) (view : B → A) (r : Result B Refusal) → j ≡ k → Judges k view r → Judges j view r
-judged_as j k view r is judged = subst (λ x. Judges x view r) (sym is) judged

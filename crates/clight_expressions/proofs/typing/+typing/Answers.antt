@@ -12,7 +12,8 @@ use Rattle.clight_typing.specs.Typing.{is_floating, words_type, typed, typed_nam
 use Rattle.clight_specifiers.specs.TypingOf.{parts_of}
 use Rattle.clight_expressions.specs.SuffixOf.{suffixes_judged}
 use Rattle.clight_expressions.proofs.Stops.{stops_as, fails_as, fails_short}
-use Rattle.clight_expressions.proofs.Same.{same_typed, same_list, same_name, same_specified, same_members, same_declarators, same_enumerators, same_parameters, same_declared, judged_as}
+use Rattle.clight_expressions.proofs.Same.{same_typed, same_list, same_name, same_specified, same_members, same_declarators, same_enumerators, same_parameters, same_declared}
+use Rattle.clight_specifiers.proofs.Faults.{judged_as}
 use Rattle.clight_expressions.proofs.Rest.{then_value, all_behind, nothing_behind, parameters_behind}
 use Rattle.clight_expressions.proofs.Declarators.{array_stops, array_made, function_stops, function_made, nested_judged}
 use Rattle.clight_expressions.proofs.Loops.{exprs_stops, exprs_next, exprs_end, specifiers_stop, specifiers_next, specifiers_end, members_stop_first, members_stop_second, members_next, members_end, declarators_stop_first, declarators_stop_second, declarators_next, declarators_end, enumerators_stop_first, enumerators_stop_second, enumerators_next, enumerators_end, suffixes_stop, suffixes_next, suffixes_end, parameters_stop_first, parameters_stop_second, parameters_stop_third, parameters_next, parameters_end}
