@@ -87,7 +87,7 @@ pub fn doing(alloc: Global, at: u32, value: Value, deed: Deed) -> Result<Typed, 
 }
 
 /// What an assignment stores: a call keeps its arguments, and its value is converted when it comes.
-fn source_of(alloc: Global, types: &Types, to: Value, b: Typed) -> Result<Source, NoMemory>
+pub fn source_of(alloc: Global, types: &Types, to: Value, b: Typed) -> Result<Source, NoMemory>
     ensures { IfOk result (λ s. source_of s ≡ source_in (types_of types.now) to (typed_of b) (typed_of b).deed) }
 {
     let Typed {

@@ -64,7 +64,7 @@ pub fn with_pointers(parts: Vec<Part>, count: usize) -> Result<Vec<Part>, NoMemo
 }
 
 /// The type that the parts of a declarator make of a base; the parts come from the innermost on.
-fn built_type_in(
+pub fn built_type_in(
     alloc: Global,
     scene: &mut Scene,
     base: usize,

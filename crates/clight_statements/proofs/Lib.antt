@@ -1,0 +1,9 @@
+pub mod Deeds
+pub mod Joined
+pub mod Noted
+pub mod Behind
+pub mod Chains
+pub mod Fronts
+pub mod Loops
+pub mod Same
+pub mod Arms
