@@ -1,10 +1,11 @@
 -- Which token and which reader of the definition a value of the code's types is.
-use Rattle.std.specs.Prelude.{◌≡◌, Option, Result, IfOk}
+use Rattle.std.specs.Prelude.{◌≡◌, List, Option, Result, IfOk}
 use Rattle.std.specs.Option.{option_map}
 use Rattle.tso_words.specs.declared.name.NoMemory.{NoMemory}
 use Rattle.c_grammar.specs.Tokens as k
 use Rattle.c_grammar.specs.Machine as g
 use Rattle.c_reading.specs.Code as c
+use Rattle.c_reading.specs.Frames as marks
 use Rattle.c_reading.specs.Kinds.{kind_of, jump_of}
 use Rattle.c_tree.specs.Shape.{access_of, composite_of}
 use Rattle.c_parts.specs.Views.{expr_part_of, arguments_part_of, specifiers_part_of, enumerators_part_of, declarator_part_of, abstract_part_of, optional_part_of, for_first_part_of, statement_part_of}
@@ -14,7 +15,7 @@ use Rattle.c_frames.specs.declared.mode.Head.{Head}
 use Rattle.c_frames.specs.declared.mode.Head.TheVariants as head
 use Rattle.c_frames.specs.declared.mode.Mode.{Mode}
 use Rattle.c_frames.specs.declared.mode.Mode.TheVariants as mode
-use Rattle.c_frames.specs.declared.mode.Reader.{Reader}
+use Rattle.c_frames.specs.declared.mode.Context.{Context}
 
 abbrev pub token_of : Token → k.Token
 token_of t = k.token (kind_of t.name t.kind) t.at
@@ -67,9 +68,14 @@ mode_of (mode.SizeofOpen at paren_at) = c.in_sizeof_open at paren_at
 mode_of (mode.Arguments callee at) = c.in_arguments (expr_part_of callee) at
 mode_of (mode.Access object at access) = c.in_access (expr_part_of object) at (access_of access)
 
-abbrev pub reader_of : Reader → c.Reader
-reader_of r = c.made (mode_of r.mode) (stack_of r.context.stack) r.context.names
+-- the reader of a mode, over what was read apart from it
+abbrev pub reader_of : Mode → Context → c.Reader
+reader_of m context = c.made (mode_of m) (stack_of context.stack) context.names
 
--- whether there was no memory, or the state is that of the definition
-abbrev pub Gives : Result (Option Reader) NoMemory → Option c.Reader → Type 0
-Gives result expected = IfOk result (λ next. option_map reader_of next ≡ expected)
+-- the reader of the next mode over a stack and names, or none where there is no next mode
+abbrev pub reached : Option Mode → marks.Stack → List k.Identifier → Option c.Reader
+reached next stack names = option_map (λ m. c.made (mode_of m) stack names) next
+
+-- whether there was no memory, or the next mode over what was read, as it is then, is the state of the definition, and there is none where the definition has none
+abbrev pub Moves : Result (Option Mode) NoMemory → Context → Option c.Reader → Type 0
+Moves result context expected = IfOk result (λ next. reached next (stack_of context.stack) context.names ≡ expected)

@@ -1,43 +1,74 @@
 //! Behind declarations.
 
-ghost use Rattle.std.specs.Prelude.{◌≡◌, IfOk};
+ghost use Rattle.std.specs.Prelude.{◌≡◌, OnOk};
 ghost use Rattle.c_frames.specs.Frames.{frame_of, stack_of};
-ghost use Rattle.c_frames.specs.Readers.{Gives, token_of};
-ghost use Rattle.c_parts.specs.Views.{declaration_part_of, file_part_of, inits_part_of, specifiers_part_of};
+ghost use Rattle.c_frames.specs.Readers.{Moves, token_of};
+ghost use Rattle.c_parts.specs.Views.{declaration_part_of, declarator_part_of, file_part_of, inits_part_of, items_part_of, specifiers_part_of};
 ghost use Rattle.c_reading.specs.Code as code;
 ghost use Rattle.c_reading.specs.Frames as marks;
 ghost use Rattle.c_reading.specs.Parts as part;
 
 use crate::frame::{Entry, Frame};
 use crate::kinds::{is_comma, is_semicolon};
-use crate::mode::{Context, Mode, Reader};
+use crate::mode::{Context, Mode};
 use crate::stack::Stack;
-use crate::states::{goes, pushed};
+use crate::states::pushed;
 use crate::token::Token;
 use c_parts::{
-    DeclarationPart, InitsPart, SpecifiersPart, add_declaration, add_external_declaration,
-    declaration_part, first_declaration_part,
+    DeclarationPart, DeclaratorPart, InitsPart, ItemsPart, SpecifiersPart, add_declaration,
+    add_external_declaration, declaration_part, first_declaration_part, no_file,
 };
+use std::alloc::Global;
+use std::mem;
 use tso_words::NoMemory;
 
 // The file with one declaration more, where no frame is left.
 #[tactic(auto, using(crate::proofs::Bottom::still_bottom))]
-fn declared_in_file(declaration: DeclarationPart, stack: Stack) -> Result<Stack, NoMemory>
-    requires { stack_of stack ≡ marks.bottom (file_part_of stack.file) }
-    ensures { IfOk result (λ longer. stack_of longer ≡ marks.bottom (part.add_external_declaration (file_part_of stack.file) (declaration_part_of declaration))) }
+fn declared_in_file(
+    alloc: Global,
+    declaration: DeclarationPart,
+    stack: &mut Stack,
+) -> Result<(), NoMemory>
+    requires { stack_of stack.old ≡ marks.bottom (file_part_of stack.old.file) }
+    ensures { OnOk result (stack_of stack.new ≡ marks.bottom (part.add_external_declaration (file_part_of stack.old.file) (declaration_part_of declaration))) }
 {
-    let Stack { file, entries } = stack;
-    let file = add_external_declaration(file, declaration)?;
-    Ok(Stack { file, entries })
+    let file = mem::replace(&mut stack.file, no_file(alloc));
+    stack.file = add_external_declaration(file, declaration)?;
+    Ok(())
+}
+
+// Behind a declaration in a function's body, whose frame was taken off.
+fn declared_in_function(
+    declaration: DeclarationPart,
+    specifiers: SpecifiersPart,
+    declarator: DeclaratorPart,
+    body_at: u32,
+    items: ItemsPart,
+    context: &mut Context,
+) -> Result<Option<Mode>, NoMemory>
+    ensures { (nest : marks.Nest) → Moves result context.new (code.declared (declaration_part_of declaration) (marks.above (marks.function_frame (specifiers_part_of specifiers) (declarator_part_of declarator) body_at (items_part_of items)) nest (stack_of context.old.stack)) context.old.names) }
+{
+    let Ok(items) = add_declaration(items, declaration) else {
+        drop(specifiers);
+        drop(declarator);
+        return Err(NoMemory);
+    };
+    let function = Frame::Function {
+        specifiers,
+        declarator,
+        body_at,
+        items,
+    };
+    pushed(Mode::Items, function, context)
 }
 
 // Behind a declaration, the frame that it stands in being taken off.
 fn declared_in(
     declaration: DeclarationPart,
     frame: Frame,
-    context: Context,
-) -> Result<Option<Reader>, NoMemory>
-    ensures { (nest : marks.Nest) → Gives result (code.declared (declaration_part_of declaration) (marks.above (frame_of frame) nest (stack_of context.stack)) context.names) }
+    context: &mut Context,
+) -> Result<Option<Mode>, NoMemory>
+    ensures { (nest : marks.Nest) → Moves result context.new (code.declared (declaration_part_of declaration) (marks.above (frame_of frame) nest (stack_of context.old.stack)) context.old.names) }
 {
     match frame {
         Frame::Block { at, items } => {
@@ -49,48 +80,49 @@ fn declared_in(
             declarator,
             body_at,
             items,
-        } => {
-            let function = Frame::Function {
-                specifiers,
-                declarator,
-                body_at,
-                items: add_declaration(items, declaration)?,
-            };
-            pushed(Mode::Items, function, context)
-        }
+        } => { declared_in_function(declaration, specifiers, declarator, body_at, items, context) }
         Frame::Group {
             groups,
             labels,
             items,
         } => {
+            let Ok(items) = add_declaration(items, declaration) else {
+                drop(groups);
+                drop(labels);
+                return Err(NoMemory);
+            };
             let group = Frame::Group {
                 groups,
                 labels,
-                items: add_declaration(items, declaration)?,
+                items,
             };
             pushed(Mode::Items, group, context)
         }
         Frame::ForHead { at } => {
             let first = first_declaration_part(declaration);
-            Ok(goes(Mode::ForTest { at, first }, context))
+            Ok(Some(Mode::ForTest { at, first }))
         }
-        _ => Ok(None),
+        other => {
+            drop(other);
+            drop(declaration);
+            Ok(None)
+        }
     }
 }
 
 /// Behind a declaration: it stands in the file, among items, or in the head of a `for`.
 pub fn declared(
+    alloc: Global,
     declaration: DeclarationPart,
-    mut context: Context,
-) -> Result<Option<Reader>, NoMemory>
-    ensures { Gives result (code.declared (declaration_part_of declaration) (stack_of context.stack) context.names) }
+    context: &mut Context,
+) -> Result<Option<Mode>, NoMemory>
+    ensures { Moves result context.new (code.declared (declaration_part_of declaration) (stack_of context.old.stack) context.old.names) }
 {
     match context.stack.pop() {
         Some(frame) => declared_in(declaration, frame, context),
         None => {
-            let Context { stack, names } = context;
-            let stack = declared_in_file(declaration, stack)?;
-            Ok(goes(Mode::File, Context { stack, names }))
+            declared_in_file(alloc, declaration, &mut context.stack)?;
+            Ok(Some(Mode::File))
         }
     }
 }
@@ -112,32 +144,37 @@ fn is_for_head(stack: &Stack) -> bool
 
 /// Behind specifiers with no declarators, which a `for` does not take.
 pub fn declared_alone(
+    alloc: Global,
     declaration: DeclarationPart,
-    context: Context,
-) -> Result<Option<Reader>, NoMemory>
-    ensures { Gives result (code.declared_alone (declaration_part_of declaration) (stack_of context.stack) context.names) }
+    context: &mut Context,
+) -> Result<Option<Mode>, NoMemory>
+    ensures { Moves result context.new (code.declared_alone (declaration_part_of declaration) (stack_of context.old.stack) context.old.names) }
 {
     if is_for_head(&context.stack) {
+        drop(declaration);
         Ok(None)
     } else {
-        declared(declaration, context)
+        declared(alloc, declaration, context)
     }
 }
 
 /// Behind a declarator with its initializer.
 pub fn on_init_declarator(
+    alloc: Global,
     specifiers: SpecifiersPart,
     inits: InitsPart,
-    context: Context,
-    token: Token,
-) -> Result<Option<Reader>, NoMemory>
-    ensures { Gives result (code.on_init_declarator (specifiers_part_of specifiers) (inits_part_of inits) (stack_of context.stack) context.names (token_of token)) }
+    context: &mut Context,
+    token: &Token,
+) -> Result<Option<Mode>, NoMemory>
+    ensures { Moves result context.new (code.on_init_declarator (specifiers_part_of specifiers) (inits_part_of inits) (stack_of context.old.stack) context.old.names (token_of token.now)) }
 {
-    if is_semicolon(&token) {
-        return declared(declaration_part(specifiers, inits)?, context);
+    if is_semicolon(token) {
+        return declared(alloc, declaration_part(specifiers, inits)?, context);
     }
-    if is_comma(&token) {
+    if is_comma(token) {
         return pushed(Mode::Declarator, Frame::Init { specifiers, inits }, context);
     }
+    drop(specifiers);
+    drop(inits);
     Ok(None)
 }

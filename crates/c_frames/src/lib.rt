@@ -28,12 +28,12 @@ pub use kinds::{
     is_left_bracket, is_left_paren, is_right_brace, is_right_bracket, is_right_paren, is_semicolon,
     unary_operator,
 };
-pub use mode::{Context, Head, Mode, Reader};
+pub use mode::{Context, Head, Mode};
 pub use names::TypedefNames;
 pub use nest::Nest;
 pub use nesting::deepest;
 pub use pile::Pile;
 pub use stack::Stack;
-pub use states::{end_if, goes, operand_on, pushed, pushed_if};
+pub use states::{end_if, operand_on, pushed, pushed_if};
 pub use suffix_ends::{array_end, enumeration_end, function_end, parameters_end};
 pub use token::Token;

@@ -129,10 +129,3 @@ pub struct Context {
     pub stack: Stack,
     pub names: TypedefNames,
 }
-
-/// The reader behind some tokens.
-#[derive(Drop)]
-pub struct Reader {
-    pub mode: Mode,
-    pub context: Context,
-}

@@ -6,7 +6,7 @@ ghost use Rattle.c_frames.specs.Readers.{mode_of, reader_of};
 ghost use Rattle.c_parts.specs.Views.{abstract_part_of, declarator_part_of};
 ghost use Rattle.c_reading.specs.Code as code;
 
-use crate::mode::{Mode, Reader};
+use crate::mode::{Context, Mode};
 use crate::nest::Nest;
 use c_parts::{AbstractPart, DeclaratorPart, deeper, is_bare, is_named_function, over};
 
@@ -145,8 +145,8 @@ fn mode_deepest(mode: &Mode, nest: Nest) -> u8
 }
 
 /// The nesting of the deepest token that was read, at most 255.
-pub fn deepest(reader: &Reader) -> u8
-    ensures { result ≡ code.deepest (reader_of reader.now) }
+pub fn deepest(mode: &Mode, context: &Context) -> u8
+    ensures { result ≡ code.deepest (reader_of mode.now context.now) }
 {
-    mode_deepest(&reader.mode, reader.context.stack.nest())
+    mode_deepest(mode, context.stack.nest())
 }
