@@ -1,4 +1,5 @@
 pub mod Operands
 pub mod OtherFrames
+pub mod OtherWords
 pub mod Same
 pub mod Stars

@@ -1,8 +1,8 @@
 //! Declarators, with a name and without, and parameters.
 
-ghost use Rattle.std.specs.Prelude.{◌≡◌, ◌++◌, ◌∷◌, [], IfOk, MatchResult, false};
+ghost use Rattle.std.specs.Prelude.{◌≡◌, ◌++◌, ◌∷◌, [], MatchResult, OnOk, false};
 ghost use Rattle.c_frames.specs.Frames.{frame_of, stack_of};
-ghost use Rattle.c_frames.specs.Readers.{Gives, mode_of, token_of};
+ghost use Rattle.c_frames.specs.Readers.{Moves, token_of};
 ghost use Rattle.c_parts.specs.Views.{
   abstract_part_of,
   declarator_part_of,
@@ -20,7 +20,7 @@ ghost use Rattle.c_states.specs.Holes.{is_star};
 ghost use Rattle.c_tree.specs.Shape.{qualifier_of, qualifiers_of};
 
 use c_frames::{
-    Context, Entry, Frame, Mode, Reader, SuffixedPart, Token, TypedefNames, end_if, goes, is_comma,
+    Context, Entry, Frame, Mode, Stack, SuffixedPart, Token, TypedefNames, end_if, is_comma,
     is_equals, is_left_brace, is_left_bracket, is_left_paren, is_right_paren, is_semicolon,
     on_init_declarator, operand_on, parameters_end, pushed,
 };
@@ -34,34 +34,35 @@ use c_parts::{
 use c_reading::token::{Kind, Operator};
 use c_tree::Qualifier;
 use std::alloc::Global;
+use std::mem;
 use tso_words::{Name, NoMemory};
 
 // The name that a declarator declares: no typedef's.
 fn on_declared_name(
     alloc: Global,
     at: u32,
-    name: Name,
-    context: Context,
-) -> Result<Option<Reader>, NoMemory>
-    ensures { Gives result (code.on_declarator (stack_of context.stack) context.names (k.token (k.Name name) at)) }
+    name: &Name,
+    context: &Context,
+) -> Result<Option<Mode>, NoMemory>
+    ensures { Moves result context.now (code.on_declarator (stack_of context.now.stack) context.now.names (k.token (k.Name name.now) at)) }
 {
-    if context.names.is_typedef(&name) {
+    if context.names.is_typedef(name) {
         return Ok(None);
     }
-    let declarator = declared_part(alloc, at, name)?;
-    Ok(goes(Mode::AfterDeclarator(declarator), context))
+    let declarator = declared_part(alloc, at, name.clone()?)?;
+    Ok(Some(Mode::AfterDeclarator(declarator)))
 }
 
 /// Where a declarator is wanted.
 pub fn on_declarator(
     alloc: Global,
-    context: Context,
-    token: Token,
-) -> Result<Option<Reader>, NoMemory>
-    ensures { Gives result (code.on_declarator (stack_of context.stack) context.names (token_of token)) }
+    context: &mut Context,
+    token: &Token,
+) -> Result<Option<Mode>, NoMemory>
+    ensures { Moves result context.new (code.on_declarator (stack_of context.old.stack) context.old.names (token_of token.now)) }
 {
     match token.kind {
-        Kind::Name => on_declared_name(alloc, token.at, token.name, context),
+        Kind::Name => on_declared_name(alloc, token.at, &token.name, context),
         Kind::Operator(Operator::Star) => {
             pushed(Mode::Declarator, Frame::Star(Vec::new(alloc)), context)
         }
@@ -70,17 +71,16 @@ pub fn on_declarator(
     }
 }
 
-// A qualifier behind those of a `*`.
-fn add_star_qualifier(
-    mode: Mode,
+// A `*` on top, with one more qualifier behind these.
+fn push_star(
     qualifiers: Vec<Qualifier>,
     qualifier: Qualifier,
-    context: Context,
-) -> Result<Option<Reader>, NoMemory>
-    ensures { Gives result (code.goes (mode_of mode) (marks.push (marks.star_frame (qualifiers_of qualifiers.items ++ qualifier_of qualifier ∷ [])) (stack_of context.stack)) context.names) }
+    stack: &mut Stack,
+) -> Result<(), NoMemory>
+    ensures { OnOk result (stack_of stack.new ≡ marks.push (marks.star_frame (qualifiers_of qualifiers.items ++ qualifier_of qualifier ∷ [])) (stack_of stack.old)) }
 {
     let more = extended_qualifiers(qualifiers, qualifier)?;
-    pushed(mode, Frame::Star(more), context)
+    stack.push(Frame::Star(more))
 }
 
 // The qualifiers of a `*`, or the frame itself where it is of another kind.
@@ -96,10 +96,10 @@ fn star_qualifiers(frame: Frame) -> Result<Vec<Qualifier>, Frame>
 /// Where a declarator is wanted, or a qualifier of the `*` before.
 pub fn on_starred(
     alloc: Global,
-    mut context: Context,
-    token: Token,
-) -> Result<Option<Reader>, NoMemory>
-    ensures { Gives result (code.on_starred (stack_of context.stack) context.names (token_of token)) }
+    context: &mut Context,
+    token: &Token,
+) -> Result<Option<Mode>, NoMemory>
+    ensures { Moves result context.new (code.on_starred (stack_of context.old.stack) context.old.names (token_of token.now)) }
 {
     let Kind::Qualifier(qualifier) = token.kind else {
         return on_declarator(alloc, context, token);
@@ -108,8 +108,14 @@ pub fn on_starred(
         return Ok(None);
     };
     match star_qualifiers(frame) {
-        Ok(qualifiers) => add_star_qualifier(Mode::Declarator, qualifiers, qualifier, context),
-        Err(_) => Ok(None),
+        Ok(qualifiers) => {
+            push_star(qualifiers, qualifier, &mut context.stack)?;
+            Ok(Some(Mode::Declarator))
+        }
+        Err(other) => {
+            drop(other);
+            Ok(None)
+        }
     }
 }
 
@@ -117,18 +123,19 @@ pub fn on_starred(
 fn on_parameter(
     alloc: Global,
     parameters: ParametersPart,
-    context: Context,
-    token: Token,
-) -> Result<Option<Reader>, NoMemory>
-    ensures { Gives result (code.on_parameter (parameters_part_of parameters) (parameters_part_of parameters) (stack_of context.stack) context.names (token_of token)) }
+    context: &mut Context,
+    token: &Token,
+) -> Result<Option<Mode>, NoMemory>
+    ensures { Moves result context.new (code.on_parameter (parameters_part_of parameters) (parameters_part_of parameters) (stack_of context.old.stack) context.old.names (token_of token.now)) }
 {
-    if is_comma(&token) {
+    if is_comma(token) {
         let mode = Mode::Specifiers(no_specifier(alloc));
         return pushed(mode, Frame::Parameter(parameters), context);
     }
-    if is_right_paren(&token) {
+    if is_right_paren(token) {
         return parameters_end(alloc, parameters, context);
     }
+    drop(parameters);
     Ok(None)
 }
 
@@ -138,20 +145,23 @@ fn after_abstract_parameter(
     parameters: ParametersPart,
     specifiers: SpecifiersPart,
     declarator: AbstractPart,
-    context: Context,
-    token: Token,
-) -> Result<Option<Reader>, NoMemory>
-    ensures { Gives result (code.on_parameter (part.add_abstract (parameters_part_of parameters) (specifiers_part_of specifiers) (abstract_part_of declarator)) (part.last_abstract (parameters_part_of parameters) (specifiers_part_of specifiers) (abstract_part_of declarator)) (stack_of context.stack) context.names (token_of token)) }
+    context: &mut Context,
+    token: &Token,
+) -> Result<Option<Mode>, NoMemory>
+    ensures { Moves result context.new (code.on_parameter (part.add_abstract (parameters_part_of parameters) (specifiers_part_of specifiers) (abstract_part_of declarator)) (part.last_abstract (parameters_part_of parameters) (specifiers_part_of specifiers) (abstract_part_of declarator)) (stack_of context.old.stack) context.old.names (token_of token.now)) }
 {
-    if is_comma(&token) {
+    if is_comma(token) {
         let more = add_abstract(parameters, specifiers, declarator)?;
         let mode = Mode::Specifiers(no_specifier(alloc));
         return pushed(mode, Frame::Parameter(more), context);
     }
-    if is_right_paren(&token) {
+    if is_right_paren(token) {
         let all = last_abstract(alloc, parameters, specifiers, declarator)?;
         return parameters_end(alloc, all, context);
     }
+    drop(parameters);
+    drop(specifiers);
+    drop(declarator);
     Ok(None)
 }
 
@@ -162,16 +172,21 @@ fn on_abstract_parameter_in(
     specifiers: SpecifiersPart,
     declarator: AbstractPart,
     frame: Frame,
-    context: Context,
-    token: Token,
-) -> Result<Option<Reader>, NoMemory>
-    ensures { (nest : marks.Nest) → Gives result (code.on_abstract_parameter (specifiers_part_of specifiers) (abstract_part_of declarator) (marks.above (frame_of frame) nest (stack_of context.stack)) context.names (token_of token)) }
+    context: &mut Context,
+    token: &Token,
+) -> Result<Option<Mode>, NoMemory>
+    ensures { (nest : marks.Nest) → Moves result context.new (code.on_abstract_parameter (specifiers_part_of specifiers) (abstract_part_of declarator) (marks.above (frame_of frame) nest (stack_of context.old.stack)) context.old.names (token_of token.now)) }
 {
     match frame {
         Frame::Parameter(parameters) => {
             after_abstract_parameter(alloc, parameters, specifiers, declarator, context, token)
         }
-        _ => Ok(None),
+        other => {
+            drop(other);
+            drop(specifiers);
+            drop(declarator);
+            Ok(None)
+        }
     }
 }
 
@@ -180,16 +195,20 @@ fn on_abstract_parameter(
     alloc: Global,
     specifiers: SpecifiersPart,
     declarator: AbstractPart,
-    mut context: Context,
-    token: Token,
-) -> Result<Option<Reader>, NoMemory>
-    ensures { Gives result (code.on_abstract_parameter (specifiers_part_of specifiers) (abstract_part_of declarator) (stack_of context.stack) context.names (token_of token)) }
+    context: &mut Context,
+    token: &Token,
+) -> Result<Option<Mode>, NoMemory>
+    ensures { Moves result context.new (code.on_abstract_parameter (specifiers_part_of specifiers) (abstract_part_of declarator) (stack_of context.old.stack) context.old.names (token_of token.now)) }
 {
     match context.stack.pop() {
         Some(frame) => {
             on_abstract_parameter_in(alloc, specifiers, declarator, frame, context, token)
         }
-        None => Ok(None),
+        None => {
+            drop(specifiers);
+            drop(declarator);
+            Ok(None)
+        }
     }
 }
 
@@ -198,17 +217,21 @@ fn type_named_in(
     alloc: Global,
     type_name: TypePart,
     frame: Frame,
-    context: Context,
-) -> Result<Option<Reader>, NoMemory>
-    ensures { (nest : marks.Nest) → Gives result (code.type_named (type_part_of type_name) (marks.above (frame_of frame) nest (stack_of context.stack)) context.names) }
+    context: &mut Context,
+) -> Result<Option<Mode>, NoMemory>
+    ensures { (nest : marks.Nest) → Moves result context.new (code.type_named (type_part_of type_name) (marks.above (frame_of frame) nest (stack_of context.old.stack)) context.old.names) }
 {
     match frame {
         Frame::CastType { at } => operand_on(Frame::Cast { at, type_name }, context),
         Frame::SizeofType { at } => {
             let whole = sizeof_type_part(alloc, at, type_name)?;
-            Ok(goes(Mode::AfterSizeof(whole), context))
+            Ok(Some(Mode::AfterSizeof(whole)))
         }
-        _ => Ok(None),
+        other => {
+            drop(other);
+            drop(type_name);
+            Ok(None)
+        }
     }
 }
 
@@ -216,13 +239,16 @@ fn type_named_in(
 fn type_named(
     alloc: Global,
     type_name: TypePart,
-    mut context: Context,
-) -> Result<Option<Reader>, NoMemory>
-    ensures { Gives result (code.type_named (type_part_of type_name) (stack_of context.stack) context.names) }
+    context: &mut Context,
+) -> Result<Option<Mode>, NoMemory>
+    ensures { Moves result context.new (code.type_named (type_part_of type_name) (stack_of context.old.stack) context.old.names) }
 {
     match context.stack.pop() {
         Some(frame) => type_named_in(alloc, type_name, frame, context),
-        None => Ok(None),
+        None => {
+            drop(type_name);
+            Ok(None)
+        }
     }
 }
 
@@ -231,28 +257,34 @@ fn end_abstract(
     alloc: Global,
     frame: Frame,
     declarator: AbstractPart,
-    context: Context,
-    token: Token,
-) -> Result<Option<Reader>, NoMemory>
+    context: &mut Context,
+    token: &Token,
+) -> Result<Option<Mode>, NoMemory>
     requires { is_star (frame_of frame) ≡ false }
-    ensures { (nest : marks.Nest) → Gives result (code.climb_abstract (abstract_part_of declarator) (marks.above (frame_of frame) nest (stack_of context.stack)) context.names (token_of token)) }
+    ensures { (nest : marks.Nest) → Moves result context.new (code.climb_abstract (abstract_part_of declarator) (marks.above (frame_of frame) nest (stack_of context.old.stack)) context.old.names (token_of token.now)) }
 {
     match frame {
         Frame::ParameterOf(specifiers) => {
             on_abstract_parameter(alloc, specifiers, declarator, context, token)
         }
         Frame::TypeName(specifiers) => {
-            if !is_right_paren(&token) {
+            if !is_right_paren(token) {
+                drop(specifiers);
+                drop(declarator);
                 return Ok(None);
             }
             type_named(alloc, type_part(specifiers, declarator)?, context)
         }
         Frame::Open => {
-            let is_whole = is_right_paren(&token) && declarator.is_some;
+            let is_whole = is_right_paren(token) && declarator.is_some;
             let mode = Mode::AfterAbstract(abstract_parenthesized_part(declarator));
-            Ok(end_if(is_whole, mode, context))
+            Ok(end_if(is_whole, mode))
         }
-        _ => Ok(None),
+        other => {
+            drop(other);
+            drop(declarator);
+            Ok(None)
+        }
     }
 }
 
@@ -260,13 +292,14 @@ fn end_abstract(
 fn climb_abstract(
     alloc: Global,
     mut declarator: AbstractPart,
-    mut context: Context,
-    token: Token,
-) -> Result<Option<Reader>, NoMemory>
-    ensures { Gives result (code.climb_abstract (abstract_part_of declarator) (stack_of context.stack) context.names (token_of token)) }
+    context: &mut Context,
+    token: &Token,
+) -> Result<Option<Mode>, NoMemory>
+    ensures { Moves result context.new (code.climb_abstract (abstract_part_of declarator) (stack_of context.old.stack) context.old.names (token_of token.now)) }
 {
     'climbing: loop {
         let Some(frame) = context.stack.pop() else {
+            drop(declarator);
             return Ok(None);
         };
         match star_qualifiers(frame) {
@@ -279,22 +312,22 @@ fn climb_abstract(
 /// Where an abstract declarator or none may stand.
 pub fn on_abstract(
     alloc: Global,
-    context: Context,
-    token: Token,
-) -> Result<Option<Reader>, NoMemory>
-    ensures { Gives result (code.on_abstract (stack_of context.stack) context.names (token_of token)) }
+    context: &mut Context,
+    token: &Token,
+) -> Result<Option<Mode>, NoMemory>
+    ensures { Moves result context.new (code.on_abstract (stack_of context.old.stack) context.old.names (token_of token.now)) }
 {
     match token.kind {
         Kind::Name => {
             if !context.stack.nest().takes_name {
                 return Ok(None);
             }
-            on_declared_name(alloc, token.at, token.name, context)
+            on_declared_name(alloc, token.at, &token.name, context)
         }
         Kind::Operator(Operator::Star) => {
             pushed(Mode::Abstract, Frame::Star(Vec::new(alloc)), context)
         }
-        Kind::LeftParen => Ok(goes(Mode::Opened, context)),
+        Kind::LeftParen => Ok(Some(Mode::Opened)),
         Kind::LeftBracket => {
             let suffixed = SuffixedPart::Abstract(no_abstract(alloc));
             pushed(Mode::Length, Frame::Length(suffixed), context)
@@ -306,10 +339,10 @@ pub fn on_abstract(
 /// Where an abstract declarator may stand, or a qualifier of the `*` before.
 pub fn on_starred_abstract(
     alloc: Global,
-    mut context: Context,
-    token: Token,
-) -> Result<Option<Reader>, NoMemory>
-    ensures { Gives result (code.on_starred_abstract (stack_of context.stack) context.names (token_of token)) }
+    context: &mut Context,
+    token: &Token,
+) -> Result<Option<Mode>, NoMemory>
+    ensures { Moves result context.new (code.on_starred_abstract (stack_of context.old.stack) context.old.names (token_of token.now)) }
 {
     let Kind::Qualifier(qualifier) = token.kind else {
         return on_abstract(alloc, context, token);
@@ -318,7 +351,10 @@ pub fn on_starred_abstract(
         return on_abstract(alloc, context, token);
     };
     match star_qualifiers(frame) {
-        Ok(qualifiers) => add_star_qualifier(Mode::Abstract, qualifiers, qualifier, context),
+        Ok(qualifiers) => {
+            push_star(qualifiers, qualifier, &mut context.stack)?;
+            Ok(Some(Mode::Abstract))
+        }
         Err(frame) => {
             context.stack.entries.push(Entry { frame, nest })?;
             on_abstract(alloc, context, token)
@@ -333,12 +369,15 @@ fn on_function_body(
     specifiers: SpecifiersPart,
     inits: InitsPart,
     body_at: u32,
-    context: Context,
-) -> Result<Option<Reader>, NoMemory>
-    ensures { Gives result (code.on_function_body (declarator_part_of declarator) (specifiers_part_of specifiers) (inits_part_of inits) body_at (stack_of context.stack) context.names) }
+    context: &mut Context,
+) -> Result<Option<Mode>, NoMemory>
+    ensures { Moves result context.new (code.on_function_body (declarator_part_of declarator) (specifiers_part_of specifiers) (inits_part_of inits) body_at (stack_of context.old.stack) context.old.names) }
 {
     let is_first = are_no_inits(&inits) && context.stack.is_bottom();
+    drop(inits);
     if !is_first || !is_head(declarator.shape) || specifiers.declares_types {
+        drop(specifiers);
+        drop(declarator);
         return Ok(None);
     }
     let frame = Frame::Function {
@@ -352,17 +391,19 @@ fn on_function_body(
 
 // The typedef names behind a declarator of a declaration.
 fn declare(
+    alloc: Global,
     specifiers: &SpecifiersPart,
     declarator: &DeclaratorPart,
-    names: TypedefNames,
-) -> Result<TypedefNames, NoMemory>
-    ensures { IfOk result (λ more. more ≡ code.names_with specifiers.now.declares_types declarator.now.name names) }
+    names: &mut TypedefNames,
+) -> Result<(), NoMemory>
+    ensures { OnOk result (names.new ≡ code.names_with specifiers.now.declares_types declarator.now.name names.old) }
 {
     if specifiers.declares_types {
-        names.declare(declarator.name.clone()?)
-    } else {
-        Ok(names)
+        let name = declarator.name.clone()?;
+        let before = mem::replace(names, TypedefNames::new(alloc));
+        *names = before.declare(name)?;
     }
+    Ok(())
 }
 
 // Behind a declarator of a declaration with nothing round it.
@@ -371,20 +412,21 @@ fn on_declared(
     declarator: DeclaratorPart,
     specifiers: SpecifiersPart,
     inits: InitsPart,
-    context: Context,
-    token: Token,
-) -> Result<Option<Reader>, NoMemory>
-    ensures { Gives result (code.on_declared (declarator_part_of declarator) (specifiers_part_of specifiers) (inits_part_of inits) (stack_of context.stack) context.names (token_of token)) }
+    context: &mut Context,
+    token: &Token,
+) -> Result<Option<Mode>, NoMemory>
+    ensures { Moves result context.new (code.on_declared (declarator_part_of declarator) (specifiers_part_of specifiers) (inits_part_of inits) (stack_of context.old.stack) context.old.names (token_of token.now)) }
 {
-    if is_left_brace(&token) {
+    if is_left_brace(token) {
         return on_function_body(alloc, declarator, specifiers, inits, token.at, context);
     }
-    let names = declare(&specifiers, &declarator, context.names)?;
-    let context = Context {
-        stack: context.stack,
-        names,
-    };
-    if is_equals(&token) {
+    if let Err(no_memory) = declare(alloc, &specifiers, &declarator, &mut context.names) {
+        drop(specifiers);
+        drop(inits);
+        drop(declarator);
+        return Err(no_memory);
+    }
+    if is_equals(token) {
         let frame = Frame::Initializer {
             specifiers,
             inits,
@@ -392,8 +434,11 @@ fn on_declared(
         };
         return pushed(Mode::Initializer, frame, context);
     }
-    let more = add_init(inits, declarator, no_initializer_part())?;
-    on_init_declarator(specifiers, more, context, token)
+    let Ok(more) = add_init(inits, declarator, no_initializer_part()) else {
+        drop(specifiers);
+        return Err(NoMemory);
+    };
+    on_init_declarator(alloc, specifiers, more, context, token)
 }
 
 // Behind declarators of members, the frame of the members being taken off.
@@ -401,9 +446,9 @@ fn members_more_in(
     specifiers: SpecifiersPart,
     declarators: DeclaratorsPart,
     frame: Frame,
-    context: Context,
-) -> Result<Option<Reader>, NoMemory>
-    ensures { (nest : marks.Nest) → Gives result (code.members_more (specifiers_part_of specifiers) (declarators_part_of declarators) (marks.above (frame_of frame) nest (stack_of context.stack)) context.names) }
+    context: &mut Context,
+) -> Result<Option<Mode>, NoMemory>
+    ensures { (nest : marks.Nest) → Moves result context.new (code.members_more (specifiers_part_of specifiers) (declarators_part_of declarators) (marks.above (frame_of frame) nest (stack_of context.old.stack)) context.old.names) }
 {
     match frame {
         Frame::Members {
@@ -414,17 +459,27 @@ fn members_more_in(
             body_at,
             members,
         } => {
+            let Ok(members) = add_members(members, specifiers, declarators) else {
+                drop(outer);
+                drop(tag);
+                return Err(NoMemory);
+            };
             let frame = Frame::Members {
                 specifiers: outer,
                 at,
                 word,
                 tag,
                 body_at,
-                members: add_members(members, specifiers, declarators)?,
+                members,
             };
             pushed(Mode::Members, frame, context)
         }
-        _ => Ok(None),
+        other => {
+            drop(other);
+            drop(specifiers);
+            drop(declarators);
+            Ok(None)
+        }
     }
 }
 
@@ -432,13 +487,17 @@ fn members_more_in(
 fn members_more(
     specifiers: SpecifiersPart,
     declarators: DeclaratorsPart,
-    mut context: Context,
-) -> Result<Option<Reader>, NoMemory>
-    ensures { Gives result (code.members_more (specifiers_part_of specifiers) (declarators_part_of declarators) (stack_of context.stack) context.names) }
+    context: &mut Context,
+) -> Result<Option<Mode>, NoMemory>
+    ensures { Moves result context.new (code.members_more (specifiers_part_of specifiers) (declarators_part_of declarators) (stack_of context.old.stack) context.old.names) }
 {
     match context.stack.pop() {
         Some(frame) => members_more_in(specifiers, declarators, frame, context),
-        None => Ok(None),
+        None => {
+            drop(specifiers);
+            drop(declarators);
+            Ok(None)
+        }
     }
 }
 
@@ -446,21 +505,23 @@ fn members_more(
 fn on_member(
     specifiers: SpecifiersPart,
     declarators: DeclaratorsPart,
-    context: Context,
-    token: Token,
-) -> Result<Option<Reader>, NoMemory>
-    ensures { Gives result (code.on_member (specifiers_part_of specifiers) (declarators_part_of declarators) (stack_of context.stack) context.names (token_of token)) }
+    context: &mut Context,
+    token: &Token,
+) -> Result<Option<Mode>, NoMemory>
+    ensures { Moves result context.new (code.on_member (specifiers_part_of specifiers) (declarators_part_of declarators) (stack_of context.old.stack) context.old.names (token_of token.now)) }
 {
-    if is_comma(&token) {
+    if is_comma(token) {
         let frame = Frame::Member {
             specifiers,
             declarators,
         };
         return pushed(Mode::Declarator, frame, context);
     }
-    if is_semicolon(&token) {
+    if is_semicolon(token) {
         return members_more(specifiers, declarators, context);
     }
+    drop(specifiers);
+    drop(declarators);
     Ok(None)
 }
 
@@ -470,17 +531,22 @@ fn on_named_parameter_in(
     specifiers: SpecifiersPart,
     declarator: DeclaratorPart,
     frame: Frame,
-    context: Context,
-    token: Token,
-) -> Result<Option<Reader>, NoMemory>
-    ensures { (nest : marks.Nest) → Gives result (code.on_named_parameter (specifiers_part_of specifiers) (declarator_part_of declarator) (marks.above (frame_of frame) nest (stack_of context.stack)) context.names (token_of token)) }
+    context: &mut Context,
+    token: &Token,
+) -> Result<Option<Mode>, NoMemory>
+    ensures { (nest : marks.Nest) → Moves result context.new (code.on_named_parameter (specifiers_part_of specifiers) (declarator_part_of declarator) (marks.above (frame_of frame) nest (stack_of context.old.stack)) context.old.names (token_of token.now)) }
 {
     match frame {
         Frame::Parameter(parameters) => {
             let more = add_parameter(parameters, specifiers, declarator)?;
             on_parameter(alloc, more, context, token)
         }
-        _ => Ok(None),
+        other => {
+            drop(other);
+            drop(specifiers);
+            drop(declarator);
+            Ok(None)
+        }
     }
 }
 
@@ -489,14 +555,18 @@ fn on_named_parameter(
     alloc: Global,
     specifiers: SpecifiersPart,
     declarator: DeclaratorPart,
-    mut context: Context,
-    token: Token,
-) -> Result<Option<Reader>, NoMemory>
-    ensures { Gives result (code.on_named_parameter (specifiers_part_of specifiers) (declarator_part_of declarator) (stack_of context.stack) context.names (token_of token)) }
+    context: &mut Context,
+    token: &Token,
+) -> Result<Option<Mode>, NoMemory>
+    ensures { Moves result context.new (code.on_named_parameter (specifiers_part_of specifiers) (declarator_part_of declarator) (stack_of context.old.stack) context.old.names (token_of token.now)) }
 {
     match context.stack.pop() {
         Some(frame) => on_named_parameter_in(alloc, specifiers, declarator, frame, context, token),
-        None => Ok(None),
+        None => {
+            drop(specifiers);
+            drop(declarator);
+            Ok(None)
+        }
     }
 }
 
@@ -505,11 +575,11 @@ fn end_declarator(
     alloc: Global,
     frame: Frame,
     declarator: DeclaratorPart,
-    context: Context,
-    token: Token,
-) -> Result<Option<Reader>, NoMemory>
+    context: &mut Context,
+    token: &Token,
+) -> Result<Option<Mode>, NoMemory>
     requires { is_star (frame_of frame) ≡ false }
-    ensures { (nest : marks.Nest) → Gives result (code.climb (declarator_part_of declarator) (marks.above (frame_of frame) nest (stack_of context.stack)) context.names (token_of token)) }
+    ensures { (nest : marks.Nest) → Moves result context.new (code.climb (declarator_part_of declarator) (marks.above (frame_of frame) nest (stack_of context.old.stack)) context.old.names (token_of token.now)) }
 {
     match frame {
         Frame::Init { specifiers, inits } => {
@@ -519,7 +589,10 @@ fn end_declarator(
             specifiers,
             declarators,
         } => {
-            let more = add_declarator(declarators, declarator)?;
+            let Ok(more) = add_declarator(declarators, declarator) else {
+                drop(specifiers);
+                return Err(NoMemory);
+            };
             on_member(specifiers, more, context, token)
         }
         Frame::ParameterOf(specifiers) => {
@@ -527,9 +600,13 @@ fn end_declarator(
         }
         Frame::Open => {
             let mode = Mode::AfterDeclarator(parenthesized_part(declarator));
-            Ok(end_if(is_right_paren(&token), mode, context))
+            Ok(end_if(is_right_paren(token), mode))
         }
-        _ => Ok(None),
+        other => {
+            drop(other);
+            drop(declarator);
+            Ok(None)
+        }
     }
 }
 
@@ -537,13 +614,14 @@ fn end_declarator(
 fn climb(
     alloc: Global,
     mut declarator: DeclaratorPart,
-    mut context: Context,
-    token: Token,
-) -> Result<Option<Reader>, NoMemory>
-    ensures { Gives result (code.climb (declarator_part_of declarator) (stack_of context.stack) context.names (token_of token)) }
+    context: &mut Context,
+    token: &Token,
+) -> Result<Option<Mode>, NoMemory>
+    ensures { Moves result context.new (code.climb (declarator_part_of declarator) (stack_of context.old.stack) context.old.names (token_of token.now)) }
 {
     'climbing: loop {
         let Some(frame) = context.stack.pop() else {
+            drop(declarator);
             return Ok(None);
         };
         match star_qualifiers(frame) {
@@ -557,16 +635,16 @@ fn climb(
 pub fn on_direct(
     alloc: Global,
     declarator: DeclaratorPart,
-    context: Context,
-    token: Token,
-) -> Result<Option<Reader>, NoMemory>
-    ensures { Gives result (code.on_direct (declarator_part_of declarator) (stack_of context.stack) context.names (token_of token)) }
+    context: &mut Context,
+    token: &Token,
+) -> Result<Option<Mode>, NoMemory>
+    ensures { Moves result context.new (code.on_direct (declarator_part_of declarator) (stack_of context.old.stack) context.old.names (token_of token.now)) }
 {
-    if is_left_bracket(&token) {
+    if is_left_bracket(token) {
         let frame = Frame::Length(SuffixedPart::Named(declarator));
         return pushed(Mode::Length, frame, context);
     }
-    if is_left_paren(&token) {
+    if is_left_paren(token) {
         let frame = Frame::Parameters(SuffixedPart::Named(declarator));
         return pushed(Mode::Parameters, frame, context);
     }
@@ -577,16 +655,16 @@ pub fn on_direct(
 pub fn on_direct_abstract(
     alloc: Global,
     declarator: AbstractPart,
-    context: Context,
-    token: Token,
-) -> Result<Option<Reader>, NoMemory>
-    ensures { Gives result (code.on_direct_abstract (abstract_part_of declarator) (stack_of context.stack) context.names (token_of token)) }
+    context: &mut Context,
+    token: &Token,
+) -> Result<Option<Mode>, NoMemory>
+    ensures { Moves result context.new (code.on_direct_abstract (abstract_part_of declarator) (stack_of context.old.stack) context.old.names (token_of token.now)) }
 {
-    if is_left_bracket(&token) {
+    if is_left_bracket(token) {
         let frame = Frame::Length(SuffixedPart::Abstract(declarator));
         return pushed(Mode::Length, frame, context);
     }
-    if is_left_paren(&token) {
+    if is_left_paren(token) {
         let frame = Frame::Parameters(SuffixedPart::Abstract(declarator));
         return pushed(Mode::Parameters, frame, context);
     }

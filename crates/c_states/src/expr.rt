@@ -1,20 +1,21 @@
 //! Expressions: operands, and the operators behind them.
 
-ghost use Rattle.std.specs.Prelude.{◌≡◌};
-ghost use Rattle.std.specs.Option.{option_map};
+ghost use Rattle.std.specs.Prelude.{◌≡◌, IfOk, List};
 ghost use Rattle.c_frames.specs.Frames.{frame_of, stack_of};
-ghost use Rattle.c_frames.specs.Readers.{Gives, reader_of, token_of};
+ghost use Rattle.c_frames.specs.Readers.{Moves, reached, token_of};
 ghost use Rattle.c_parts.specs.Views.{expr_part_of};
 ghost use Rattle.c_reading.specs.Code as code;
 ghost use Rattle.c_states.specs.Joining.{Joins};
 ghost use Rattle.c_reading.specs.Kinds.{operator_of};
 ghost use Rattle.c_grammar.specs.Tokens as k;
+ghost use Rattle.c_grammar.specs.Tokens.{Identifier};
+ghost use Rattle.c_reading.specs.Frames as marks;
 ghost use Rattle.c_tree.specs.Shape.{access_of};
 
 use crate::hole::on_hole;
 use crate::specifiers::on_specifiers;
 use c_frames::{
-    Context, Frame, Mode, Reader, Token, begins_type, binary_operator, binds, goes, is_left_paren,
+    Context, Frame, Mode, Token, begins_type, binary_operator, binds, is_left_paren,
     is_right_paren, operand_on, unary_operator,
 };
 use c_parts::{
@@ -28,19 +29,19 @@ use std::alloc::Global;
 use tso_words::{Name, NoMemory};
 
 // A name as an operand: no typedef's.
-fn on_operand_name(at: u32, name: Name, context: Context) -> Option<Reader>
-    ensures { option_map reader_of result ≡ code.on_operand (stack_of context.stack) context.names (k.token (k.Name name) at) }
+fn on_operand_name(at: u32, name: &Name, context: &Context) -> Result<Option<Mode>, NoMemory>
+    ensures { Moves result context.now (code.on_operand (stack_of context.now.stack) context.now.names (k.token (k.Name name.now) at)) }
 {
-    if context.names.is_typedef(&name) {
-        None
-    } else {
-        goes(Mode::AfterPostfix(name_part(at, name)), context)
+    if context.names.is_typedef(name) {
+        return Ok(None);
     }
+    let name = name.clone()?;
+    Ok(Some(Mode::AfterPostfix(name_part(at, name))))
 }
 
 // An operator before its operand.
-fn on_unary(operator: Operator, at: u32, context: Context) -> Result<Option<Reader>, NoMemory>
-    ensures { Gives result (code.on_operand (stack_of context.stack) context.names (k.token (k.Op (operator_of operator)) at)) }
+fn on_unary(operator: Operator, at: u32, context: &mut Context) -> Result<Option<Mode>, NoMemory>
+    ensures { Moves result context.new (code.on_operand (stack_of context.old.stack) context.old.names (k.token (k.Op (operator_of operator)) at)) }
 {
     match unary_operator(operator) {
         Some(operator) => operand_on(Frame::Unary { at, operator }, context),
@@ -49,19 +50,17 @@ fn on_unary(operator: Operator, at: u32, context: Context) -> Result<Option<Read
 }
 
 /// Where an operand is wanted.
-pub fn on_operand(context: Context, token: Token) -> Result<Option<Reader>, NoMemory>
-    ensures { Gives result (code.on_operand (stack_of context.stack) context.names (token_of token)) }
+pub fn on_operand(context: &mut Context, token: &Token) -> Result<Option<Mode>, NoMemory>
+    ensures { Moves result context.new (code.on_operand (stack_of context.old.stack) context.old.names (token_of token.now)) }
 {
     let at = token.at;
     match token.kind {
-        Kind::Name => Ok(on_operand_name(at, token.name, context)),
-        Kind::Constant(number) => {
-            Ok(goes(Mode::AfterPostfix(constant_part(at, number)), context))
-        }
+        Kind::Name => on_operand_name(at, &token.name, context),
+        Kind::Constant(number) => { Ok(Some(Mode::AfterPostfix(constant_part(at, number)))) }
         Kind::Operator(operator) => on_unary(operator, at, context),
         Kind::Step(step) => operand_on(Frame::Step { at, step }, context),
-        Kind::Sizeof => Ok(goes(Mode::Sizeof { at }, context)),
-        Kind::LeftParen => Ok(goes(Mode::Open { at }, context)),
+        Kind::Sizeof => Ok(Some(Mode::Sizeof { at })),
+        Kind::LeftParen => Ok(Some(Mode::Open { at })),
         _ => Ok(None),
     }
 }
@@ -71,22 +70,24 @@ fn on_binary(
     left: ExprPart,
     operator: Operator,
     at: u32,
-    context: Context,
-) -> Result<Option<Reader>, NoMemory>
-    ensures { Gives result (code.on_operator (expr_part_of left) (stack_of context.stack) context.names (k.token (k.Op (operator_of operator)) at)) }
+    context: &mut Context,
+) -> Result<Option<Mode>, NoMemory>
+    ensures { Moves result context.new (code.on_operator (expr_part_of left) (stack_of context.old.stack) context.old.names (k.token (k.Op (operator_of operator)) at)) }
 {
     let Some(operator) = binary_operator(operator) else {
+        drop(left);
         return Ok(None);
     };
     if precedence(operator) > left.level {
+        drop(left);
         return Ok(None);
     }
     operand_on(Frame::Binary { left, at, operator }, context)
 }
 
 // An operator behind an operand that it takes.
-fn on_operator(e: ExprPart, context: Context, token: Token) -> Result<Option<Reader>, NoMemory>
-    ensures { Gives result (code.on_operator (expr_part_of e) (stack_of context.stack) context.names (token_of token)) }
+fn on_operator(e: ExprPart, context: &mut Context, token: &Token) -> Result<Option<Mode>, NoMemory>
+    ensures { Moves result context.new (code.on_operator (expr_part_of e) (stack_of context.old.stack) context.old.names (token_of token.now)) }
 {
     let at = token.at;
     match token.kind {
@@ -106,7 +107,10 @@ fn on_operator(e: ExprPart, context: Context, token: Token) -> Result<Option<Rea
             let condition = e;
             operand_on(Frame::Middle { condition, at }, context)
         }
-        _ => Ok(None),
+        _ => {
+            drop(e);
+            Ok(None)
+        }
     }
 }
 
@@ -147,18 +151,20 @@ fn join(alloc: Global, frame: Frame, e: ExprPart) -> Result<Joined, NoMemory>
 pub fn on_expression(
     alloc: Global,
     e: ExprPart,
-    mut context: Context,
-    token: Token,
-) -> Result<Option<Reader>, NoMemory>
-    ensures { Gives result (code.on_expression (expr_part_of e) (stack_of context.stack) context.names (token_of token)) }
+    context: &mut Context,
+    token: &Token,
+) -> Result<Option<Mode>, NoMemory>
+    ensures { Moves result context.new (code.on_expression (expr_part_of e) (stack_of context.old.stack) context.old.names (token_of token.now)) }
 {
     if context.stack.is_bottom() {
+        drop(e);
         return Ok(None);
     }
-    if context.stack.need() <= binds(&token) {
+    if context.stack.need() <= binds(token) {
         return on_operator(e, context, token);
     }
     let Some(frame) = context.stack.pop() else {
+        drop(e);
         return Ok(None);
     };
     match join(alloc, frame, e)? {
@@ -171,22 +177,22 @@ pub fn on_expression(
 pub fn on_postfix(
     alloc: Global,
     e: ExprPart,
-    context: Context,
-    token: Token,
-) -> Result<Option<Reader>, NoMemory>
-    ensures { Gives result (code.on_postfix (expr_part_of e) (stack_of context.stack) context.names (token_of token)) }
+    context: &mut Context,
+    token: &Token,
+) -> Result<Option<Mode>, NoMemory>
+    ensures { Moves result context.new (code.on_postfix (expr_part_of e) (stack_of context.old.stack) context.old.names (token_of token.now)) }
 {
     let at = token.at;
     match token.kind {
         Kind::LeftBracket => operand_on(Frame::Index { array: e, at }, context),
-        Kind::LeftParen => Ok(goes(Mode::Arguments { callee: e, at }, context)),
+        Kind::LeftParen => Ok(Some(Mode::Arguments { callee: e, at })),
         Kind::Member(access) => {
             let object = e;
-            Ok(goes(Mode::Access { object, at, access }, context))
+            Ok(Some(Mode::Access { object, at, access }))
         }
         Kind::Step(step) => {
             let whole = step_after_part(alloc, e, at, step)?;
-            Ok(goes(Mode::AfterPostfix(whole), context))
+            Ok(Some(Mode::AfterPostfix(whole)))
         }
         _ => on_expression(alloc, e, context, token),
     }
@@ -196,12 +202,12 @@ pub fn on_postfix(
 pub fn on_open(
     alloc: Global,
     at: u32,
-    mut context: Context,
-    token: Token,
-) -> Result<Option<Reader>, NoMemory>
-    ensures { Gives result (code.on_open at (stack_of context.stack) context.names (token_of token)) }
+    context: &mut Context,
+    token: &Token,
+) -> Result<Option<Mode>, NoMemory>
+    ensures { Moves result context.new (code.on_open at (stack_of context.old.stack) context.old.names (token_of token.now)) }
 {
-    if begins_type(&context.names, &token) {
+    if begins_type(&context.names, token) {
         if context.stack.need() > 13 {
             return Ok(None);
         }
@@ -213,12 +219,12 @@ pub fn on_open(
 }
 
 /// Behind `sizeof`.
-pub fn on_sizeof(at: u32, mut context: Context, token: Token) -> Result<Option<Reader>, NoMemory>
-    ensures { Gives result (code.on_sizeof at (stack_of context.stack) context.names (token_of token)) }
+pub fn on_sizeof(at: u32, context: &mut Context, token: &Token) -> Result<Option<Mode>, NoMemory>
+    ensures { Moves result context.new (code.on_sizeof at (stack_of context.old.stack) context.old.names (token_of token.now)) }
 {
-    if is_left_paren(&token) {
+    if is_left_paren(token) {
         let paren_at = token.at;
-        return Ok(goes(Mode::SizeofOpen { at, paren_at }, context));
+        return Ok(Some(Mode::SizeofOpen { at, paren_at }));
     }
     context.stack.push(Frame::Sizeof { at })?;
     on_operand(context, token)
@@ -229,12 +235,12 @@ pub fn on_sizeof_open(
     alloc: Global,
     at: u32,
     paren_at: u32,
-    mut context: Context,
-    token: Token,
-) -> Result<Option<Reader>, NoMemory>
-    ensures { Gives result (code.on_sizeof_open at paren_at (stack_of context.stack) context.names (token_of token)) }
+    context: &mut Context,
+    token: &Token,
+) -> Result<Option<Mode>, NoMemory>
+    ensures { Moves result context.new (code.on_sizeof_open at paren_at (stack_of context.old.stack) context.old.names (token_of token.now)) }
 {
-    if begins_type(&context.names, &token) {
+    if begins_type(&context.names, token) {
         context.stack.push(Frame::SizeofType { at })?;
         return on_specifiers(alloc, no_specifier(alloc), context, token);
     }
@@ -248,15 +254,15 @@ pub fn on_arguments(
     alloc: Global,
     callee: ExprPart,
     at: u32,
-    mut context: Context,
-    token: Token,
-) -> Result<Option<Reader>, NoMemory>
-    ensures { Gives result (code.on_arguments (expr_part_of callee) at (stack_of context.stack) context.names (token_of token)) }
+    context: &mut Context,
+    token: &Token,
+) -> Result<Option<Mode>, NoMemory>
+    ensures { Moves result context.new (code.on_arguments (expr_part_of callee) at (stack_of context.old.stack) context.old.names (token_of token.now)) }
 {
     let arguments = no_argument(alloc);
-    if is_right_paren(&token) {
+    if is_right_paren(token) {
         let whole = call_part(alloc, callee, at, arguments)?;
-        return Ok(goes(Mode::AfterPostfix(whole), context));
+        return Ok(Some(Mode::AfterPostfix(whole)));
     }
     context.stack.push(Frame::Argument {
         callee,
@@ -272,16 +278,22 @@ pub fn on_access(
     object: ExprPart,
     at: u32,
     access: Access,
-    context: Context,
-    token: Token,
-) -> Result<Option<Reader>, NoMemory>
-    ensures { Gives result (code.on_access (expr_part_of object) at (access_of access) (stack_of context.stack) context.names (token_of token)) }
+    token: &Token,
+) -> Result<Option<Mode>, NoMemory>
+    ensures { (stack : marks.Stack) (names : List Identifier) → IfOk result (λ next. reached next stack names ≡ code.on_access (expr_part_of object) at (access_of access) stack names (token_of token.now)) }
 {
     match token.kind {
         Kind::Name => {
-            let whole = member_part(alloc, object, at, access, token.at, token.name)?;
-            Ok(goes(Mode::AfterPostfix(whole), context))
+            let Ok(name) = token.name.clone() else {
+                drop(object);
+                return Err(NoMemory);
+            };
+            let whole = member_part(alloc, object, at, access, token.at, name)?;
+            Ok(Some(Mode::AfterPostfix(whole)))
         }
-        _ => Ok(None),
+        _ => {
+            drop(object);
+            Ok(None)
+        }
     }
 }

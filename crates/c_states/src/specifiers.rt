@@ -1,11 +1,11 @@
 //! Specifiers, and the bodies of structs, unions and enums.
 
-ghost use Rattle.std.specs.Prelude.{◌≡◌, ℕ};
-ghost use Rattle.std.specs.Option.{option_map};
+ghost use Rattle.std.specs.Prelude.{◌≡◌, IfOk, List, ℕ};
 ghost use Rattle.c_frames.specs.Frames.{frame_of, stack_of};
-ghost use Rattle.c_frames.specs.Readers.{Gives, reader_of, token_of};
+ghost use Rattle.c_frames.specs.Readers.{Moves, reached, token_of};
 ghost use Rattle.c_parts.specs.Views.{enumerators_part_of, last_of, specifiers_part_of};
 ghost use Rattle.c_grammar.specs.Tokens as k;
+ghost use Rattle.c_grammar.specs.Tokens.{Identifier};
 ghost use Rattle.c_reading.specs.Code as code;
 ghost use Rattle.c_reading.specs.Frames as marks;
 ghost use Rattle.c_reading.specs.Parts as part;
@@ -15,8 +15,8 @@ ghost use Rattle.c_tree.specs.Shape.{composite_of, storage_of, word_of, words_of
 use crate::declarator::{on_abstract, on_declarator};
 use crate::place::SpecifiersPlace;
 use c_frames::{
-    Context, Frame, Mode, Reader, Token, declared_alone, end_if, enumeration_end, goes, is_comma,
-    is_equals, is_right_brace, is_semicolon, operand_on, pushed,
+    Context, Frame, Mode, Token, declared_alone, end_if, enumeration_end, is_comma, is_equals,
+    is_right_brace, is_semicolon, operand_on, pushed,
 };
 use c_parts::{
     EnumeratorsPart, LastSpecifier, SpecifiersPart, add_composite, add_enum_reference,
@@ -55,14 +55,18 @@ fn takes_storage(place: SpecifiersPlace) -> bool
 fn on_name(
     specifiers: SpecifiersPart,
     at: u32,
-    name: Name,
-    context: Context,
-) -> Result<Option<Reader>, NoMemory>
-    ensures { Gives result (code.on_name (specifiers_part_of specifiers) name at (stack_of context.stack) context.names) }
+    name: &Name,
+    context: &Context,
+) -> Result<Option<Mode>, NoMemory>
+    ensures { Moves result context.now (code.on_name (specifiers_part_of specifiers) name.now at (stack_of context.now.stack) context.now.names) }
 {
-    let is_typedef = context.names.is_typedef(&name);
+    let is_typedef = context.names.is_typedef(name);
+    let Ok(name) = name.clone() else {
+        drop(specifiers);
+        return Err(NoMemory);
+    };
     let more = add_typedef(specifiers, at, name)?;
-    Ok(end_if(is_typedef, Mode::Specifiers(more), context))
+    Ok(end_if(is_typedef, Mode::Specifiers(more)))
 }
 
 // A word of a type behind the words of one, the first of which stands at `first`.
@@ -71,15 +75,19 @@ fn on_next_word(
     first: u32,
     words: Vec<TypeWord>,
     word: TypeWord,
-    context: Context,
-) -> Result<Option<Reader>, NoMemory>
-    ensures { (at : ℕ) → Gives result (code.on_word_behind (part.last_words first (words_of words.items)) (specifiers_part_of specifiers) (stack_of context.stack) context.names (word_of word) at) }
+) -> Result<Option<Mode>, NoMemory>
+    ensures { (at : ℕ) (stack : marks.Stack) (names : List Identifier) → IfOk result (λ next. reached next stack names ≡ code.on_word_behind (part.last_words first (words_of words.items)) (specifiers_part_of specifiers) stack names (word_of word) at) }
 {
-    let words = add_word(words, word)?;
+    let Ok(words) = add_word(words, word) else {
+        drop(specifiers);
+        return Err(NoMemory);
+    };
     if are_type(&words) {
         let more = with_words(specifiers, first, words);
-        Ok(goes(Mode::Specifiers(more), context))
+        Ok(Some(Mode::Specifiers(more)))
     } else {
+        drop(specifiers);
+        drop(words);
         Ok(None)
     }
 }
@@ -90,15 +98,15 @@ fn on_first_word(
     specifiers: SpecifiersPart,
     at: u32,
     word: TypeWord,
-    context: Context,
-) -> Result<Option<Reader>, NoMemory>
-    ensures { Gives result (code.on_word_behind part.no_last (specifiers_part_of specifiers) (stack_of context.stack) context.names (word_of word) at) }
+) -> Result<Option<Mode>, NoMemory>
+    ensures { (stack : marks.Stack) (names : List Identifier) → IfOk result (λ next. reached next stack names ≡ code.on_word_behind part.no_last (specifiers_part_of specifiers) stack names (word_of word) at) }
 {
     if specifiers.has_type {
+        drop(specifiers);
         return Ok(None);
     }
     let more = add_first_word(alloc, specifiers, at, word)?;
-    Ok(goes(Mode::Specifiers(more), context))
+    Ok(Some(Mode::Specifiers(more)))
 }
 
 // A word of a type.
@@ -107,17 +115,16 @@ fn on_word(
     mut specifiers: SpecifiersPart,
     at: u32,
     word: TypeWord,
-    context: Context,
-) -> Result<Option<Reader>, NoMemory>
-    ensures { Gives result (code.on_word_behind (last_of specifiers.last) (specifiers_part_of specifiers) (stack_of context.stack) context.names (word_of word) at) }
+) -> Result<Option<Mode>, NoMemory>
+    ensures { (stack : marks.Stack) (names : List Identifier) → IfOk result (λ next. reached next stack names ≡ code.on_word_behind (last_of specifiers.last) (specifiers_part_of specifiers) stack names (word_of word) at) }
 {
     match mem::replace(&mut specifiers.last, LastSpecifier::Whole) {
         LastSpecifier::Words { at: first, words } => {
-            on_next_word(specifiers, first, words, word, context)
+            on_next_word(specifiers, first, words, word)
         }
         other => {
             specifiers.last = other;
-            on_first_word(alloc, specifiers, at, word, context)
+            on_first_word(alloc, specifiers, at, word)
         }
     }
 }
@@ -126,27 +133,28 @@ fn on_storage(
     specifiers: SpecifiersPart,
     at: u32,
     word: StorageClass,
-    context: Context,
-) -> Result<Option<Reader>, NoMemory>
-    ensures { Gives result (code.on_storage (specifiers_part_of specifiers) at (storage_of word) (stack_of context.stack) context.names) }
+    context: &Context,
+) -> Result<Option<Mode>, NoMemory>
+    ensures { Moves result context.now (code.on_storage (specifiers_part_of specifiers) at (storage_of word) (stack_of context.now.stack) context.now.names) }
 {
-    if !takes_storage(specifiers_place(&context)) || specifiers.has_storage {
+    if !takes_storage(specifiers_place(context)) || specifiers.has_storage {
+        drop(specifiers);
         return Ok(None);
     }
     let more = add_storage(specifiers, at, word)?;
-    Ok(goes(Mode::Specifiers(more), context))
+    Ok(Some(Mode::Specifiers(more)))
 }
 
 fn on_inline(
     specifiers: SpecifiersPart,
     at: u32,
-    context: Context,
-) -> Result<Option<Reader>, NoMemory>
-    ensures { Gives result (code.on_specifiers (specifiers_part_of specifiers) (stack_of context.stack) context.names (k.token k.Inline at)) }
+    context: &Context,
+) -> Result<Option<Mode>, NoMemory>
+    ensures { Moves result context.now (code.on_specifiers (specifiers_part_of specifiers) (stack_of context.now.stack) context.now.names (k.token k.Inline at)) }
 {
-    let is_taken = takes_storage(specifiers_place(&context));
+    let is_taken = takes_storage(specifiers_place(context));
     let more = add_inline(specifiers, at)?;
-    Ok(end_if(is_taken, Mode::Specifiers(more), context))
+    Ok(end_if(is_taken, Mode::Specifiers(more)))
 }
 
 // `{` behind a tag, which begins a body.
@@ -154,9 +162,9 @@ fn on_body(
     alloc: Global,
     mut specifiers: SpecifiersPart,
     body_at: u32,
-    context: Context,
-) -> Result<Option<Reader>, NoMemory>
-    ensures { Gives result (code.on_body_behind (last_of specifiers.last) (specifiers_part_of specifiers) body_at (stack_of context.stack) context.names) }
+    context: &mut Context,
+) -> Result<Option<Mode>, NoMemory>
+    ensures { Moves result context.new (code.on_body_behind (last_of specifiers.last) (specifiers_part_of specifiers) body_at (stack_of context.old.stack) context.old.names) }
 {
     match mem::replace(&mut specifiers.last, LastSpecifier::Whole) {
         LastSpecifier::Composite { at, word, tag } => {
@@ -179,7 +187,10 @@ fn on_body(
             };
             pushed(Mode::Enumerator, frame, context)
         }
-        LastSpecifier::Whole | LastSpecifier::Words { .. } => Ok(None),
+        LastSpecifier::Whole | LastSpecifier::Words { .. } => {
+            drop(specifiers);
+            Ok(None)
+        }
     }
 }
 
@@ -187,15 +198,15 @@ fn on_body(
 fn behind_declaration(
     alloc: Global,
     specifiers: SpecifiersPart,
-    mut context: Context,
-    token: Token,
-) -> Result<Option<Reader>, NoMemory>
-    ensures { Gives result (code.after_specifiers code.of_declaration (specifiers_part_of specifiers) (stack_of context.stack) context.names (token_of token)) }
+    context: &mut Context,
+    token: &Token,
+) -> Result<Option<Mode>, NoMemory>
+    ensures { Moves result context.new (code.after_specifiers code.of_declaration (specifiers_part_of specifiers) (stack_of context.old.stack) context.old.names (token_of token.now)) }
 {
     let inits = no_inits(alloc);
-    if is_semicolon(&token) {
+    if is_semicolon(token) {
         let declaration = declaration_part(specifiers, inits)?;
-        return declared_alone(declaration, context);
+        return declared_alone(alloc, declaration, context);
     }
     context.stack.push(Frame::Init { specifiers, inits })?;
     on_declarator(alloc, context, token)
@@ -205,12 +216,12 @@ fn behind_declaration(
 fn on_typed(
     alloc: Global,
     specifiers: SpecifiersPart,
-    mut context: Context,
-    token: Token,
-) -> Result<Option<Reader>, NoMemory>
-    ensures { Gives result (code.on_typed (specifiers_part_of specifiers) (stack_of context.stack) context.names (token_of token)) }
+    context: &mut Context,
+    token: &Token,
+) -> Result<Option<Mode>, NoMemory>
+    ensures { Moves result context.new (code.on_typed (specifiers_part_of specifiers) (stack_of context.old.stack) context.old.names (token_of token.now)) }
 {
-    match specifiers_place(&context) {
+    match specifiers_place(context) {
         SpecifiersPlace::Declaration => behind_declaration(alloc, specifiers, context, token),
         SpecifiersPlace::Member => {
             let declarators = no_declarator_part(alloc);
@@ -235,18 +246,18 @@ fn on_typed(
 pub fn on_specifiers(
     alloc: Global,
     specifiers: SpecifiersPart,
-    context: Context,
-    token: Token,
-) -> Result<Option<Reader>, NoMemory>
-    ensures { Gives result (code.on_specifiers (specifiers_part_of specifiers) (stack_of context.stack) context.names (token_of token)) }
+    context: &mut Context,
+    token: &Token,
+) -> Result<Option<Mode>, NoMemory>
+    ensures { Moves result context.new (code.on_specifiers (specifiers_part_of specifiers) (stack_of context.old.stack) context.old.names (token_of token.now)) }
 {
     let at = token.at;
     match token.kind {
-        Kind::Name if !specifiers.has_type => on_name(specifiers, at, token.name, context),
-        Kind::TypeWord(word) => on_word(alloc, specifiers, at, word, context),
+        Kind::Name if !specifiers.has_type => on_name(specifiers, at, &token.name, context),
+        Kind::TypeWord(word) => on_word(alloc, specifiers, at, word),
         Kind::Qualifier(word) => {
             let more = add_qualifier(specifiers, at, word)?;
-            Ok(goes(Mode::Specifiers(more), context))
+            Ok(Some(Mode::Specifiers(more)))
         }
         Kind::Storage(word) => on_storage(specifiers, at, word, context),
         Kind::Inline => on_inline(specifiers, at, context),
@@ -256,13 +267,19 @@ pub fn on_specifiers(
                 at,
                 word,
             };
-            Ok(goes(mode, context))
+            Ok(Some(mode))
         }
-        Kind::Enum if !specifiers.has_type => Ok(goes(Mode::Enum { specifiers, at }, context)),
-        Kind::Composite(_) | Kind::Enum => Ok(None),
+        Kind::Enum if !specifiers.has_type => Ok(Some(Mode::Enum { specifiers, at })),
+        Kind::Composite(_) | Kind::Enum => {
+            drop(specifiers);
+            Ok(None)
+        }
         Kind::LeftBrace => on_body(alloc, specifiers, at, context),
         _ if specifiers.has_type => on_typed(alloc, specifiers, context, token),
-        _ => Ok(None),
+        _ => {
+            drop(specifiers);
+            Ok(None)
+        }
     }
 }
 
@@ -272,23 +289,25 @@ pub fn on_composite(
     specifiers: SpecifiersPart,
     at: u32,
     word: CompositeWord,
-    context: Context,
-    token: Token,
-) -> Result<Option<Reader>, NoMemory>
-    ensures { Gives result (code.on_composite (specifiers_part_of specifiers) at (composite_of word) (stack_of context.stack) context.names (token_of token)) }
+    context: &mut Context,
+    token: &Token,
+) -> Result<Option<Mode>, NoMemory>
+    ensures { Moves result context.new (code.on_composite (specifiers_part_of specifiers) at (composite_of word) (stack_of context.old.stack) context.old.names (token_of token.now)) }
 {
     match token.kind {
         Kind::Name => {
-            let tag = Tag {
-                at: token.at,
-                name: token.name,
+            let Ok(name) = token.name.clone() else {
+                drop(specifiers);
+                return Err(NoMemory);
             };
+            let tag = Tag { at: token.at, name };
             let more = add_reference(specifiers, at, word, tag)?;
-            Ok(goes(Mode::Specifiers(more), context))
+            Ok(Some(Mode::Specifiers(more)))
         }
         Kind::LeftBrace => {
+            let specifiers = before_body(specifiers, at)?;
             let frame = Frame::Members {
-                specifiers: before_body(specifiers, at)?,
+                specifiers,
                 at,
                 word,
                 tag: None,
@@ -297,7 +316,10 @@ pub fn on_composite(
             };
             pushed(Mode::Members, frame, context)
         }
-        _ => Ok(None),
+        _ => {
+            drop(specifiers);
+            Ok(None)
+        }
     }
 }
 
@@ -305,36 +327,41 @@ pub fn on_composite(
 pub fn on_enum(
     specifiers: SpecifiersPart,
     at: u32,
-    context: Context,
-    token: Token,
-) -> Result<Option<Reader>, NoMemory>
-    ensures { Gives result (code.on_enum (specifiers_part_of specifiers) at (stack_of context.stack) context.names (token_of token)) }
+    context: &mut Context,
+    token: &Token,
+) -> Result<Option<Mode>, NoMemory>
+    ensures { Moves result context.new (code.on_enum (specifiers_part_of specifiers) at (stack_of context.old.stack) context.old.names (token_of token.now)) }
 {
     match token.kind {
         Kind::Name => {
-            let tag = Tag {
-                at: token.at,
-                name: token.name,
+            let Ok(name) = token.name.clone() else {
+                drop(specifiers);
+                return Err(NoMemory);
             };
+            let tag = Tag { at: token.at, name };
             let more = add_enum_reference(specifiers, at, tag)?;
-            Ok(goes(Mode::Specifiers(more), context))
+            Ok(Some(Mode::Specifiers(more)))
         }
         Kind::LeftBrace => {
+            let specifiers = before_body(specifiers, at)?;
             let frame = Frame::Enum {
-                specifiers: before_body(specifiers, at)?,
+                specifiers,
                 at,
                 tag: None,
                 body_at: token.at,
             };
             pushed(Mode::Enumerator, frame, context)
         }
-        _ => Ok(None),
+        _ => {
+            drop(specifiers);
+            Ok(None)
+        }
     }
 }
 
 // Behind the `}` of a struct or union, which needs a member, the frame being taken off.
-fn members_end_in(frame: Frame, context: Context) -> Result<Option<Reader>, NoMemory>
-    ensures { (nest : marks.Nest) → Gives result (code.members_end (marks.above (frame_of frame) nest (stack_of context.stack)) context.names) }
+fn members_end_in(frame: Frame) -> Result<Option<Mode>, NoMemory>
+    ensures { (nest : marks.Nest) (stack : marks.Stack) (names : List Identifier) → IfOk result (λ next. reached next stack names ≡ code.members_end (marks.above (frame_of frame) nest stack) names) }
 {
     match frame {
         Frame::Members {
@@ -346,30 +373,40 @@ fn members_end_in(frame: Frame, context: Context) -> Result<Option<Reader>, NoMe
             members,
         } => {
             if are_no_members(&members) {
+                drop(specifiers);
+                drop(tag);
+                drop(members);
                 return Ok(None);
             }
             let more = add_composite(specifiers, at, word, tag, body_at, members)?;
-            Ok(goes(Mode::Specifiers(more), context))
+            Ok(Some(Mode::Specifiers(more)))
         }
-        _ => Ok(None),
+        other => {
+            drop(other);
+            Ok(None)
+        }
     }
 }
 
 // Behind the `}` of a struct or union.
-fn members_end(mut context: Context) -> Result<Option<Reader>, NoMemory>
-    ensures { Gives result (code.members_end (stack_of context.stack) context.names) }
+fn members_end(context: &mut Context) -> Result<Option<Mode>, NoMemory>
+    ensures { Moves result context.new (code.members_end (stack_of context.old.stack) context.old.names) }
 {
     match context.stack.pop() {
-        Some(frame) => members_end_in(frame, context),
+        Some(frame) => members_end_in(frame),
         None => Ok(None),
     }
 }
 
 /// Among the members of a struct or union.
-pub fn on_members(alloc: Global, context: Context, token: Token) -> Result<Option<Reader>, NoMemory>
-    ensures { Gives result (code.on_members (stack_of context.stack) context.names (token_of token)) }
+pub fn on_members(
+    alloc: Global,
+    context: &mut Context,
+    token: &Token,
+) -> Result<Option<Mode>, NoMemory>
+    ensures { Moves result context.new (code.on_members (stack_of context.old.stack) context.old.names (token_of token.now)) }
 {
-    if is_right_brace(&token) {
+    if is_right_brace(token) {
         return members_end(context);
     }
     on_specifiers(alloc, no_specifier(alloc), context, token)
@@ -379,29 +416,37 @@ pub fn on_members(alloc: Global, context: Context, token: Token) -> Result<Optio
 fn on_constant_name(
     enumerators: EnumeratorsPart,
     at: u32,
-    name: Name,
-    context: Context,
-) -> Option<Reader>
-    ensures { option_map reader_of result ≡ code.on_constant_name (enumerators_part_of enumerators) name at (stack_of context.stack) context.names }
+    name: &Name,
+    context: &Context,
+) -> Result<Option<Mode>, NoMemory>
+    ensures { Moves result context.now (code.on_constant_name (enumerators_part_of enumerators) name.now at (stack_of context.now.stack) context.now.names) }
 {
-    if context.names.is_typedef(&name) {
-        return None;
+    if context.names.is_typedef(name) {
+        drop(enumerators);
+        return Ok(None);
     }
-    let mode = Mode::AfterEnumerator {
+    let Ok(name) = name.clone() else {
+        drop(enumerators);
+        return Err(NoMemory);
+    };
+    Ok(Some(Mode::AfterEnumerator {
         enumerators,
         at,
         name,
-    };
-    goes(mode, context)
+    }))
 }
 
 /// Where the first enumeration constant is wanted.
-pub fn on_enumerator(alloc: Global, context: Context, token: Token) -> Option<Reader>
-    ensures { option_map reader_of result ≡ code.on_enumerator (stack_of context.stack) context.names (token_of token) }
+pub fn on_enumerator(
+    alloc: Global,
+    context: &Context,
+    token: &Token,
+) -> Result<Option<Mode>, NoMemory>
+    ensures { Moves result context.now (code.on_enumerator (stack_of context.now.stack) context.now.names (token_of token.now)) }
 {
     match token.kind {
-        Kind::Name => on_constant_name(no_enumerator(alloc), token.at, token.name, context),
-        _ => None,
+        Kind::Name => on_constant_name(no_enumerator(alloc), token.at, &token.name, context),
+        _ => Ok(None),
     }
 }
 
@@ -410,12 +455,12 @@ pub fn on_after_enumerator(
     enumerators: EnumeratorsPart,
     at: u32,
     name: Name,
-    context: Context,
-    token: Token,
-) -> Result<Option<Reader>, NoMemory>
-    ensures { Gives result (code.on_after_enumerator (enumerators_part_of enumerators) at name (stack_of context.stack) context.names (token_of token)) }
+    context: &mut Context,
+    token: &Token,
+) -> Result<Option<Mode>, NoMemory>
+    ensures { Moves result context.new (code.on_after_enumerator (enumerators_part_of enumerators) at name (stack_of context.old.stack) context.old.names (token_of token.now)) }
 {
-    if is_equals(&token) {
+    if is_equals(token) {
         let frame = Frame::Enumerator {
             enumerators,
             at,
@@ -430,31 +475,35 @@ pub fn on_after_enumerator(
 /// Behind the comma of an enum.
 pub fn on_enumerator_comma(
     enumerators: EnumeratorsPart,
-    context: Context,
-    token: Token,
-) -> Result<Option<Reader>, NoMemory>
-    ensures { Gives result (code.on_enumerator_comma (enumerators_part_of enumerators) (stack_of context.stack) context.names (token_of token)) }
+    context: &mut Context,
+    token: &Token,
+) -> Result<Option<Mode>, NoMemory>
+    ensures { Moves result context.new (code.on_enumerator_comma (enumerators_part_of enumerators) (stack_of context.old.stack) context.old.names (token_of token.now)) }
 {
     match token.kind {
-        Kind::Name => Ok(on_constant_name(enumerators, token.at, token.name, context)),
+        Kind::Name => on_constant_name(enumerators, token.at, &token.name, context),
         Kind::RightBrace => enumeration_end(enumerators, context),
-        _ => Ok(None),
+        _ => {
+            drop(enumerators);
+            Ok(None)
+        }
     }
 }
 
 /// Behind a value or a name of an enum.
 pub fn on_enumerator_value(
     enumerators: EnumeratorsPart,
-    context: Context,
-    token: Token,
-) -> Result<Option<Reader>, NoMemory>
-    ensures { Gives result (code.on_enumerator_value (enumerators_part_of enumerators) (stack_of context.stack) context.names (token_of token)) }
+    context: &mut Context,
+    token: &Token,
+) -> Result<Option<Mode>, NoMemory>
+    ensures { Moves result context.new (code.on_enumerator_value (enumerators_part_of enumerators) (stack_of context.old.stack) context.old.names (token_of token.now)) }
 {
-    if is_comma(&token) {
-        return Ok(goes(Mode::AfterEnumeratorComma(enumerators), context));
+    if is_comma(token) {
+        return Ok(Some(Mode::AfterEnumeratorComma(enumerators)));
     }
-    if is_right_brace(&token) {
+    if is_right_brace(token) {
         return enumeration_end(enumerators, context);
     }
+    drop(enumerators);
     Ok(None)
 }

@@ -4,5 +4,5 @@ use Rattle.c_parts.specs.Views.{abstract_part_of}
 use Rattle.c_states.proofs.OtherFrames.{no_abstract_end}
 use Rattle.c_states.proofs.declarator.end_abstract.Goals as goal
 
-pub returns : goal.returns
-returns c = λ n. no_abstract_end (abstract_part_of c.args.declarator) c.args.frame n (stack_of c.args.context.stack) c.args.context.names (token_of c.args.token) c.requires c.in_default.not-ParameterOf c.in_default.not-TypeName c.in_default.not-Open
+pub returns-in_default : goal.returns-in_default
+returns-in_default c = λ n. no_abstract_end (abstract_part_of c.args.declarator) c.args.frame n (stack_of c.args.context.now.stack) c.args.context.now.names (token_of c.args.token.now) c.requires c.in_default.not-ParameterOf c.in_default.not-TypeName c.in_default.not-Open

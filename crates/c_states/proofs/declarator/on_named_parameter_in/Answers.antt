@@ -5,4 +5,4 @@ use Rattle.c_states.proofs.OtherFrames.{no_named_parameter}
 use Rattle.c_states.proofs.declarator.on_named_parameter_in.Goals as goal
 
 pub returns-in_default : goal.returns-in_default
-returns-in_default c = λ n. no_named_parameter (specifiers_part_of c.args.specifiers) (declarator_part_of c.args.declarator) c.args.frame n (stack_of c.args.context.stack) c.args.context.names (token_of c.args.token) c.in_default.not-Parameter
+returns-in_default c = λ n. no_named_parameter (specifiers_part_of c.args.specifiers) (declarator_part_of c.args.declarator) c.args.frame n (stack_of c.args.context.now.stack) c.args.context.now.names (token_of c.args.token.now) c.in_default.not-Parameter
