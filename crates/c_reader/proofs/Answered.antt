@@ -14,8 +14,7 @@ use Rattle.c_reading.specs.declared.listed.FileToken.{FileToken}
 use Rattle.c_reading.proofs.Exact.{exact}
 use Rattle.c_tree.specs.FileShape.{file_of}
 use Rattle.c_tree.specs.declared.file.File.{File}
-use Rattle.c_frames.specs.Readers.{reader_of}
-use Rattle.c_frames.specs.declared.mode.Reader.{Reader}
+use Rattle.c_frames.specs.declared.mode.Context.{Context}
 use Rattle.c_reader.specs.Reading.{Reads, GoesOn, Ends}
 use Rattle.c_reader.specs.declared.file.ReadFileRefusal.{ReadFileRefusal}
 use Rattle.c_reader.specs.declared.file.ReadFileRefusal.TheVariants.{Syntax, TooDeep, NoMemory}
@@ -78,15 +77,15 @@ is_answered bytes list a are e =
     record { tokens = ks; are = are; answers = subst P (sym e) (exact ks (length bytes)) }
 
 -- A fault at a token is the file's.
-pub fault_read : (bytes : List ℕ) (list : List FileToken) (i : ℕ) (d : FileToken) (r : code.Reader) (k : Token) (refusal : ReadFileRefusal) → AreFileTokens bytes (tokens_of bytes list) → i < length list → k ≡ token_of bytes (get_or list i d) → IsLeft bytes list i r
-    → GoesOn r k (Err refusal) → Reads bytes (Err refusal)
-fault_read bytes list i d r k (Syntax at) are lt e h g =
+pub fault_read : (bytes : List ℕ) (list : List FileToken) (i : ℕ) (d : FileToken) (r : code.Reader) (k : Token) (context : Context) (refusal : ReadFileRefusal) → AreFileTokens bytes (tokens_of bytes list) → i < length list → k ≡ token_of bytes (get_or list i d) → IsLeft bytes list i r
+    → GoesOn r k context (Err refusal) → Reads bytes (Err refusal)
+fault_read bytes list i d r k context (Syntax at) are lt e h g =
     let stopped = stop (code.feed_code r k) (code.place_of k) (λ x. A.read_from (tokens_of bytes (drop (i + 1) list)) x (length bytes)) g.0 in
     is_answered bytes list (A.syntax_fault at) are (ap A.syntax_fault g.1 ∙ sym stopped ∙ next_read bytes list i d r k lt e h)
-fault_read bytes list i d r k (TooDeep at) are lt e h g =
+fault_read bytes list i d r k context (TooDeep at) are lt e h g =
     let sunk = sink (code.feed_code r k) (code.place_of k) (λ x. A.read_from (tokens_of bytes (drop (i + 1) list)) x (length bytes)) g.0 g.1 g.2 in
     is_answered bytes list (A.too_deep at) are (ap A.too_deep g.3 ∙ sym sunk ∙ next_read bytes list i d r k lt e h)
-fault_read bytes list i d r k NoMemory are lt e h g = tt
+fault_read bytes list i d r k context NoMemory are lt e h g = tt
 
 -- What stands at the end of the tokens is the file's.
 pub end_read : (bytes : List ℕ) (list : List FileToken) (i : ℕ) (r : code.Reader) (result : Result File ReadFileRefusal) → AreFileTokens bytes (tokens_of bytes list) → length list ≤ i → IsLeft bytes list i r → Ends r (length bytes) result → Reads bytes result

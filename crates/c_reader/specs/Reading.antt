@@ -8,7 +8,8 @@ use Rattle.c_reading.specs.FileAnswers.{IsFileAnswer}
 use Rattle.c_tree.specs.FileShape.{file_of}
 use Rattle.c_tree.specs.declared.file.File.{File}
 use Rattle.c_frames.specs.Readers.{reader_of}
-use Rattle.c_frames.specs.declared.mode.Reader.{Reader}
+use Rattle.c_frames.specs.declared.mode.Context.{Context}
+use Rattle.c_frames.specs.declared.mode.Mode.{Mode}
 use Rattle.c_reader.specs.declared.file.ReadFileRefusal.{ReadFileRefusal}
 use Rattle.c_reader.specs.declared.file.ReadFileRefusal.TheVariants.{Syntax, TooDeep, NoMemory}
 
@@ -19,12 +20,12 @@ Reads bytes (Err (Syntax at)) = IsFileAnswer bytes (syntax_fault at)
 Reads bytes (Err (TooDeep at)) = IsFileAnswer bytes (too_deep at)
 Reads bytes (Err NoMemory) = Unit {0}
 
--- one token more: the reader goes on, or the token is the place of a fault
-abbrev pub GoesOn : code.Reader → Token → Result Reader ReadFileRefusal → Type 0
-GoesOn r t (Ok next) = (code.feed_code r t ≡ Some (reader_of next)) × (code.deepest (reader_of next) ≤ limit)
-GoesOn r t (Err (Syntax at)) = (code.feed_code r t ≡ None) × (at ≡ code.place_of t)
-GoesOn r t (Err (TooDeep at)) = (next : code.Reader) × (code.feed_code r t ≡ Some next) × (limit < code.deepest next) × (at ≡ code.place_of t)
-GoesOn r t (Err NoMemory) = Unit {0}
+-- one token more: the reader goes on in the next mode over what was read then, or the token is the place of a fault
+abbrev pub GoesOn : code.Reader → Token → Context → Result Mode ReadFileRefusal → Type 0
+GoesOn r t context (Ok next) = (code.feed_code r t ≡ Some (reader_of next context)) × (code.deepest (reader_of next context) ≤ limit)
+GoesOn r t context (Err (Syntax at)) = (code.feed_code r t ≡ None) × (at ≡ code.place_of t)
+GoesOn r t context (Err (TooDeep at)) = (next : code.Reader) × (code.feed_code r t ≡ Some next) × (limit < code.deepest next) × (at ≡ code.place_of t)
+GoesOn r t context (Err NoMemory) = Unit {0}
 
 -- the end of the tokens: the file's trees, or a syntax fault
 abbrev pub Ends : code.Reader → ℕ → Result File ReadFileRefusal → Type 0

@@ -2,7 +2,8 @@
 
 ghost use Rattle.std.specs.Prelude.{◌≡◌};
 ghost use Rattle.c_frames.specs.Frames.{stack_of};
-ghost use Rattle.c_frames.specs.Readers.{Gives, mode_of, reader_of, token_of};
+ghost use Rattle.c_frames.specs.Readers.{Moves, mode_of, reader_of, token_of};
+ghost use Rattle.c_frames.specs.declared.mode.Mode.TheVariants as mode;
 ghost use Rattle.c_reading.specs.Code as code;
 
 use crate::initializer::{on_after_list, on_initializer, on_list_comma};
@@ -11,7 +12,7 @@ use crate::statement::{
     declaration_on, on_after_do, on_condition, on_do_condition, on_for, on_for_first, on_for_step,
     on_for_test, on_jump, on_return, on_statement, on_switch_body,
 };
-use c_frames::{Context, Mode, Reader, Stack, Token, TypedefNames};
+use c_frames::{Context, Mode, Stack, Token, TypedefNames};
 use c_parts::no_file;
 use c_states::{
     on_access, on_after_enumerator, on_arguments, on_composite, on_direct, on_direct_abstract,
@@ -27,10 +28,10 @@ use tso_words::NoMemory;
 fn feed_in(
     alloc: Global,
     mode: Mode,
-    context: Context,
-    token: Token,
-) -> Result<Option<Reader>, NoMemory>
-    ensures { Gives result (code.feed_in (mode_of mode) (stack_of context.stack) context.names (token_of token)) }
+    context: &mut Context,
+    token: &Token,
+) -> Result<Option<Mode>, NoMemory>
+    ensures { Moves result context.new (code.feed_in (mode_of mode) (stack_of context.old.stack) context.old.names (token_of token.now)) }
 {
     match mode {
         Mode::File => declaration_on(alloc, context, token),
@@ -45,8 +46,8 @@ fn feed_in(
             at,
             body,
             condition,
-        } => on_after_do(alloc, at, body, condition, context, token),
-        Mode::For { at } => Ok(on_for(at, context, token)),
+        } => on_after_do(alloc, at, body, condition, token),
+        Mode::For { at } => Ok(on_for(at, token)),
         Mode::ForFirst { at } => on_for_first(alloc, at, context, token),
         Mode::ForTest { at, first } => on_for_test(alloc, at, first, context, token),
         Mode::ForStep {
@@ -55,11 +56,11 @@ fn feed_in(
             condition,
         } => on_for_step(alloc, at, first, condition, context, token),
         Mode::SwitchBody { at, selector } => on_switch_body(at, selector, context, token),
-        Mode::Jump { at, word } => Ok(on_jump(at, word, context, token)),
+        Mode::Jump { at, word } => Ok(on_jump(at, word, token)),
         Mode::Return { at } => on_return(alloc, at, context, token),
         Mode::Initializer => on_initializer(alloc, context, token),
         Mode::AfterListComma(value) => on_list_comma(alloc, value, context, token),
-        Mode::AfterList { at, values } => on_after_list(at, values, context, token),
+        Mode::AfterList { at, values } => on_after_list(alloc, at, values, context, token),
         Mode::Specifiers(specifiers) => on_specifiers(alloc, specifiers, context, token),
         Mode::Composite {
             specifiers,
@@ -68,7 +69,7 @@ fn feed_in(
         } => on_composite(alloc, specifiers, at, word, context, token),
         Mode::Enum { specifiers, at } => on_enum(specifiers, at, context, token),
         Mode::Members => on_members(alloc, context, token),
-        Mode::Enumerator => Ok(on_enumerator(alloc, context, token)),
+        Mode::Enumerator => on_enumerator(alloc, context, token),
         Mode::AfterEnumerator {
             enumerators,
             at,
@@ -91,29 +92,28 @@ fn feed_in(
         Mode::Sizeof { at } => on_sizeof(at, context, token),
         Mode::SizeofOpen { at, paren_at } => on_sizeof_open(alloc, at, paren_at, context, token),
         Mode::Arguments { callee, at } => on_arguments(alloc, callee, at, context, token),
-        Mode::Access { object, at, access } => {
-            on_access(alloc, object, at, access, context, token)
-        }
+        Mode::Access { object, at, access } => { on_access(alloc, object, at, access, token) }
     }
 }
 
-/// Reads one token more: the state behind it, or none where no file goes on so.
-pub fn feed(alloc: Global, reader: Reader, token: Token) -> Result<Option<Reader>, NoMemory>
-    ensures { Gives result (code.feed_code (reader_of reader) (token_of token)) }
+/// Reads one token more: the mode behind it, over what was read, or none where no file goes on so.
+pub fn feed(
+    alloc: Global,
+    mode: Mode,
+    context: &mut Context,
+    token: &Token,
+) -> Result<Option<Mode>, NoMemory>
+    ensures { Moves result context.new (code.feed_code (reader_of mode context.old) (token_of token.now)) }
 {
-    let Reader { mode, context } = reader;
     feed_in(alloc, mode, context, token)
 }
 
-/// The state at the beginning of a file.
-pub fn start(alloc: Global) -> Reader
-    ensures { reader_of result ≡ code.start_code }
+/// What was read at the beginning of a file.
+pub fn start(alloc: Global) -> Context
+    ensures { reader_of mode.File result ≡ code.start_code }
 {
-    Reader {
-        mode: Mode::File,
-        context: Context {
-            stack: Stack::over(alloc, no_file(alloc)),
-            names: TypedefNames::new(alloc),
-        },
+    Context {
+        stack: Stack::over(alloc, no_file(alloc)),
+        names: TypedefNames::new(alloc),
     }
 }

@@ -8,7 +8,7 @@ ghost use Rattle.c_reading.specs.Kinds.{kind_of};
 ghost use Rattle.c_reading.specs.FileTokens.{IsWithin, token_of as listed_of};
 
 use crate::feed::{feed, start};
-use c_frames::{Context, Mode, Reader, Stack, Token, deepest};
+use c_frames::{Context, Mode, Stack, Token, deepest};
 use c_reading::listed::{FileToken, file_tokens};
 use c_reading::token::Kind;
 use c_tree::File;
@@ -65,15 +65,21 @@ fn token_at(alloc: Global, bytes: &[u8], listed: FileToken) -> Result<Token, NoM
     })
 }
 
-// The reader behind one token more, unless no file goes on so or the token nests too deep.
-fn read_token(alloc: Global, reader: Reader, token: Token) -> Result<Reader, ReadFileRefusal>
-    ensures { GoesOn (reader_of reader) (token_of token) result }
+// The mode behind one token more, unless no file goes on so or the token nests too deep.
+fn read_token(
+    alloc: Global,
+    mode: Mode,
+    context: &mut Context,
+    token: &Token,
+) -> Result<Mode, ReadFileRefusal>
+    ensures { GoesOn (reader_of mode context.old) (token_of token.now) context.new result }
 {
     let at = token.at;
-    let Some(next) = feed(alloc, reader, token)? else {
+    let Some(next) = feed(alloc, mode, context, token)? else {
         return Err(ReadFileRefusal::Syntax { at });
     };
-    if NESTING_LIMIT < deepest(&next) {
+    if NESTING_LIMIT < deepest(&next, context) {
+        drop(next);
         return Err(ReadFileRefusal::TooDeep { at });
     }
     Ok(next)
@@ -90,15 +96,19 @@ fn is_between(mode: &Mode) -> bool
 }
 
 // The file, where all its tokens are read.
-fn file_end(reader: Reader, size: u32) -> Result<File, ReadFileRefusal>
-    ensures { Ends (reader_of reader) size result }
+fn file_end(mode: Mode, context: Context, size: u32) -> Result<File, ReadFileRefusal>
+    ensures { Ends (reader_of mode context) size result }
 {
-    let Reader { mode, context } = reader;
-    if !is_between(&mode) {
+    let is_whole = is_between(&mode);
+    drop(mode);
+    if !is_whole {
+        drop(context);
         return Err(ReadFileRefusal::Syntax { at: size });
     }
-    let Context { stack, names: _ } = context;
-    let Stack { file, entries: _ } = stack;
+    let Context { stack, names } = context;
+    drop(names);
+    let Stack { file, entries } = stack;
+    drop(entries);
     Ok(File {
         externals: file.trees,
     })
@@ -114,10 +124,11 @@ pub fn read_file(alloc: Global, bytes: &[u8]) -> Result<File, ReadFileRefusal>
     ensures { Reads bytes.now result }
 {
     let tokens = file_tokens(alloc, bytes)?;
-    let mut reader = start(alloc);
+    let mut context = start(alloc);
+    let mut mode = Mode::File;
     for listed in &tokens {
         let token = token_at(alloc, bytes, *listed)?;
-        reader = read_token(alloc, reader, token)?;
+        mode = read_token(alloc, mode, &mut context, &token)?;
     }
-    file_end(reader, bytes.len() as u32)
+    file_end(mode, context, bytes.len() as u32)
 }

@@ -1,17 +1,17 @@
 //! Among the items of a block or a `switch`, and behind a statement.
 
-ghost use Rattle.std.specs.Prelude.{◌≡◌, IfOk};
-ghost use Rattle.std.specs.Option.{option_map};
+ghost use Rattle.std.specs.Prelude.{◌≡◌, IfOk, List};
 ghost use Rattle.c_frames.specs.Frames.{frame_of, stack_of};
-ghost use Rattle.c_frames.specs.Readers.{Gives, reader_of, token_of};
+ghost use Rattle.c_frames.specs.Readers.{Moves, reached, token_of};
+ghost use Rattle.c_grammar.specs.Tokens.{Identifier};
 ghost use Rattle.c_parts.specs.Views.{groups_part_of, items_part_of, labels_part_of, statement_part_of};
 ghost use Rattle.c_reading.specs.Code as code;
 ghost use Rattle.c_reading.specs.Frames as marks;
 
 use crate::statement::{begins_declaration, declaration_on, on_statement};
 use c_frames::{
-    Context, Frame, Mode, Reader, Token, end_if, groups_end, is_colon, is_right_brace, items_end,
-    labelled, operand_on, pushed,
+    Context, Frame, Mode, Token, end_if, groups_end, is_colon, is_right_brace, items_end, labelled,
+    operand_on, pushed,
 };
 use c_parts::{
     GroupsPart, ItemsPart, LabelsPart, StatementPart, add_group, add_statement, are_no_items,
@@ -72,9 +72,9 @@ fn on_case_in(
     alloc: Global,
     at: u32,
     frame: Frame,
-    mut context: Context,
-) -> Result<Option<Reader>, NoMemory>
-    ensures { (nest : marks.Nest) → Gives result (code.on_case at (marks.above (frame_of frame) nest (stack_of context.stack)) context.names) }
+    context: &mut Context,
+) -> Result<Option<Mode>, NoMemory>
+    ensures { (nest : marks.Nest) → Moves result context.new (code.on_case at (marks.above (frame_of frame) nest (stack_of context.old.stack)) context.old.names) }
 {
     match frame {
         Frame::Group {
@@ -86,13 +86,16 @@ fn on_case_in(
             context.stack.push(label)?;
             operand_on(Frame::Case { at }, context)
         }
-        _ => Ok(None),
+        other => {
+            drop(other);
+            Ok(None)
+        }
     }
 }
 
 // A `case` among items, which only those of a `switch` take.
-fn on_case(alloc: Global, at: u32, mut context: Context) -> Result<Option<Reader>, NoMemory>
-    ensures { Gives result (code.on_case at (stack_of context.stack) context.names) }
+fn on_case(alloc: Global, at: u32, context: &mut Context) -> Result<Option<Mode>, NoMemory>
+    ensures { Moves result context.new (code.on_case at (stack_of context.old.stack) context.old.names) }
 {
     match context.stack.pop() {
         Some(frame) => on_case_in(alloc, at, frame, context),
@@ -105,9 +108,9 @@ fn on_default_in(
     alloc: Global,
     at: u32,
     frame: Frame,
-    context: Context,
-) -> Result<Option<Reader>, NoMemory>
-    ensures { (nest : marks.Nest) → Gives result (code.on_default at (marks.above (frame_of frame) nest (stack_of context.stack)) context.names) }
+    context: &mut Context,
+) -> Result<Option<Mode>, NoMemory>
+    ensures { (nest : marks.Nest) → Moves result context.new (code.on_default at (marks.above (frame_of frame) nest (stack_of context.old.stack)) context.old.names) }
 {
     match frame {
         Frame::Group {
@@ -118,13 +121,16 @@ fn on_default_in(
             let label = label_behind(alloc, groups, labels, items)?;
             pushed(Mode::AfterDefault { at }, label, context)
         }
-        _ => Ok(None),
+        other => {
+            drop(other);
+            Ok(None)
+        }
     }
 }
 
 // A `default` among items, which only those of a `switch` take.
-fn on_default(alloc: Global, at: u32, mut context: Context) -> Result<Option<Reader>, NoMemory>
-    ensures { Gives result (code.on_default at (stack_of context.stack) context.names) }
+fn on_default(alloc: Global, at: u32, context: &mut Context) -> Result<Option<Mode>, NoMemory>
+    ensures { Moves result context.new (code.on_default at (stack_of context.old.stack) context.old.names) }
 {
     match context.stack.pop() {
         Some(frame) => on_default_in(alloc, at, frame, context),
@@ -133,10 +139,10 @@ fn on_default(alloc: Global, at: u32, mut context: Context) -> Result<Option<Rea
 }
 
 // A declaration or a statement.
-fn on_item(alloc: Global, context: Context, token: Token) -> Result<Option<Reader>, NoMemory>
-    ensures { Gives result (code.on_item (stack_of context.stack) context.names (token_of token)) }
+fn on_item(alloc: Global, context: &mut Context, token: &Token) -> Result<Option<Mode>, NoMemory>
+    ensures { Moves result context.new (code.on_item (stack_of context.old.stack) context.old.names (token_of token.now)) }
 {
-    if begins_declaration(&context.names, &token) {
+    if begins_declaration(&context.names, token) {
         declaration_on(alloc, context, token)
     } else {
         on_statement(alloc, context, token)
@@ -144,16 +150,20 @@ fn on_item(alloc: Global, context: Context, token: Token) -> Result<Option<Reade
 }
 
 /// Among items.
-pub fn on_items(alloc: Global, context: Context, token: Token) -> Result<Option<Reader>, NoMemory>
-    ensures { Gives result (code.on_items (stack_of context.stack) context.names (token_of token)) }
+pub fn on_items(
+    alloc: Global,
+    context: &mut Context,
+    token: &Token,
+) -> Result<Option<Mode>, NoMemory>
+    ensures { Moves result context.new (code.on_items (stack_of context.old.stack) context.old.names (token_of token.now)) }
 {
-    if is_right_brace(&token) {
-        return items_end(context);
+    if is_right_brace(token) {
+        return items_end(alloc, context);
     }
-    if is_case(&token) {
+    if is_case(token) {
         return on_case(alloc, token.at, context);
     }
-    if is_default(&token) {
+    if is_default(token) {
         return on_default(alloc, token.at, context);
     }
     on_item(alloc, context, token)
@@ -163,20 +173,20 @@ pub fn on_items(alloc: Global, context: Context, token: Token) -> Result<Option<
 fn items_in(
     alloc: Global,
     frame: Frame,
-    mut context: Context,
-    token: Token,
-) -> Result<Option<Reader>, NoMemory>
-    ensures { Gives result (code.on_items (marks.push (frame_of frame) (stack_of context.stack)) context.names (token_of token)) }
+    context: &mut Context,
+    token: &Token,
+) -> Result<Option<Mode>, NoMemory>
+    ensures { Moves result context.new (code.on_items (marks.push (frame_of frame) (stack_of context.old.stack)) context.old.names (token_of token.now)) }
 {
     context.stack.push(frame)?;
     on_items(alloc, context, token)
 }
 
 // Behind the body of a `do`.
-fn behind_body(at: u32, body: StatementPart, context: Context, token: Token) -> Option<Reader>
-    ensures { option_map reader_of result ≡ code.end_if (code.is_while (token_of token)) (code.in_do_condition at (statement_part_of body)) (stack_of context.stack) context.names }
+fn behind_body(at: u32, body: StatementPart, token: &Token) -> Option<Mode>
+    ensures { (stack : marks.Stack) (names : List Identifier) → reached result stack names ≡ code.end_if (code.is_while (token_of token.now)) (code.in_do_condition at (statement_part_of body)) stack names }
 {
-    end_if(is_while(&token), Mode::DoCondition { at, body }, context)
+    end_if(is_while(token), Mode::DoCondition { at, body })
 }
 
 // Behind a statement, the frame that it stands in being taken off.
@@ -185,14 +195,14 @@ fn on_after_in(
     alloc: Global,
     statement: StatementPart,
     frame: Frame,
-    context: Context,
-    token: Token,
-) -> Result<Option<Reader>, NoMemory>
-    ensures { (nest : marks.Nest) → Gives result (code.on_after (statement_part_of statement) (marks.above (frame_of frame) nest (stack_of context.stack)) context.names (token_of token)) }
+    context: &mut Context,
+    token: &Token,
+) -> Result<Option<Mode>, NoMemory>
+    ensures { (nest : marks.Nest) → Moves result context.new (code.on_after (statement_part_of statement) (marks.above (frame_of frame) nest (stack_of context.old.stack)) context.old.names (token_of token.now)) }
 {
     match frame {
         Frame::Then { at, condition } => {
-            if is_else(&token) {
+            if is_else(token) {
                 let frame = Frame::Else {
                     at,
                     condition,
@@ -215,7 +225,7 @@ fn on_after_in(
             let whole = while_part(alloc, at, condition, statement)?;
             on_after(alloc, whole, context, token)
         }
-        Frame::DoBody { at } => Ok(behind_body(at, statement, context, token)),
+        Frame::DoBody { at } => Ok(behind_body(at, statement, token)),
         Frame::ForBody {
             at,
             first,
@@ -235,11 +245,16 @@ fn on_after_in(
             body_at,
             items,
         } => {
+            let Ok(items) = add_statement(items, statement) else {
+                drop(specifiers);
+                drop(declarator);
+                return Err(NoMemory);
+            };
             let function = Frame::Function {
                 specifiers,
                 declarator,
                 body_at,
-                items: add_statement(items, statement)?,
+                items,
             };
             items_in(alloc, function, context, token)
         }
@@ -248,14 +263,23 @@ fn on_after_in(
             labels,
             items,
         } => {
+            let Ok(items) = add_statement(items, statement) else {
+                drop(groups);
+                drop(labels);
+                return Err(NoMemory);
+            };
             let group = Frame::Group {
                 groups,
                 labels,
-                items: add_statement(items, statement)?,
+                items,
             };
             items_in(alloc, group, context, token)
         }
-        _ => Ok(None),
+        other => {
+            drop(other);
+            drop(statement);
+            Ok(None)
+        }
     }
 }
 
@@ -264,42 +288,47 @@ fn on_after_in(
 pub fn on_after(
     alloc: Global,
     statement: StatementPart,
-    mut context: Context,
-    token: Token,
-) -> Result<Option<Reader>, NoMemory>
-    ensures { Gives result (code.on_after (statement_part_of statement) (stack_of context.stack) context.names (token_of token)) }
+    context: &mut Context,
+    token: &Token,
+) -> Result<Option<Mode>, NoMemory>
+    ensures { Moves result context.new (code.on_after (statement_part_of statement) (stack_of context.old.stack) context.old.names (token_of token.now)) }
 {
     match context.stack.pop() {
         Some(frame) => on_after_in(alloc, statement, frame, context, token),
-        None => Ok(None),
+        None => {
+            drop(statement);
+            Ok(None)
+        }
     }
 }
 
 /// Where the labels of a `switch` begin.
 pub fn on_labels(
     alloc: Global,
-    mut context: Context,
-    token: Token,
-) -> Result<Option<Reader>, NoMemory>
-    ensures { Gives result (code.on_labels (stack_of context.stack) context.names (token_of token)) }
+    context: &mut Context,
+    token: &Token,
+) -> Result<Option<Mode>, NoMemory>
+    ensures { Moves result context.new (code.on_labels (stack_of context.old.stack) context.old.names (token_of token.now)) }
 {
     let groups = no_group(alloc);
-    if is_right_brace(&token) {
+    if is_right_brace(token) {
         return Ok(groups_end(groups, context));
     }
     let labels = no_label(alloc);
     let at = token.at;
-    if is_case(&token) {
+    if is_case(token) {
         context.stack.push(Frame::Label { groups, labels })?;
         return operand_on(Frame::Case { at }, context);
     }
-    if is_default(&token) {
+    if is_default(token) {
         return pushed(
             Mode::AfterDefault { at },
             Frame::Label { groups, labels },
             context,
         );
     }
+    drop(groups);
+    drop(labels);
     Ok(None)
 }
 
@@ -307,12 +336,12 @@ pub fn on_labels(
 pub fn on_after_default(
     alloc: Global,
     at: u32,
-    context: Context,
-    token: Token,
-) -> Result<Option<Reader>, NoMemory>
-    ensures { Gives result (code.on_after_default at (stack_of context.stack) context.names (token_of token)) }
+    context: &mut Context,
+    token: &Token,
+) -> Result<Option<Mode>, NoMemory>
+    ensures { Moves result context.new (code.on_after_default at (stack_of context.old.stack) context.old.names (token_of token.now)) }
 {
-    if is_colon(&token) {
+    if is_colon(token) {
         labelled(alloc, default_part(at), context)
     } else {
         Ok(None)

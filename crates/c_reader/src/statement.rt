@@ -1,10 +1,10 @@
 //! Where a statement is wanted, and inside one.
 
-ghost use Rattle.std.specs.Prelude.{◌≡◌};
-ghost use Rattle.std.specs.Option.{option_map};
+ghost use Rattle.std.specs.Prelude.{◌≡◌, IfOk, List};
 ghost use Rattle.c_frames.specs.Frames.{frame_of, stack_of};
-ghost use Rattle.c_frames.specs.Readers.{Gives, head_of, reader_of, token_of};
+ghost use Rattle.c_frames.specs.Readers.{Moves, head_of, reached, token_of};
 ghost use Rattle.c_grammar.specs.Machine.{begins_declaration, kind_of};
+ghost use Rattle.c_grammar.specs.Tokens.{Identifier};
 ghost use Rattle.c_parts.specs.Views.{
   expr_part_of,
   for_first_part_of,
@@ -17,8 +17,8 @@ ghost use Rattle.c_reading.specs.Kinds.{jump_of};
 ghost use Rattle.c_reading.specs.Parts as part;
 
 use c_frames::{
-    Context, Frame, Head, Mode, Reader, Token, TypedefNames, begins_type, end_if, goes,
-    is_left_brace, is_left_paren, is_right_paren, is_semicolon, operand_on, pushed,
+    Context, Frame, Head, Mode, Token, TypedefNames, begins_type, end_if, is_left_brace,
+    is_left_paren, is_right_paren, is_semicolon, operand_on, pushed,
 };
 use c_parts::{
     ExprPart, ForFirstPart, OptionalPart, StatementPart, do_part, empty_part, jump_part,
@@ -43,10 +43,10 @@ pub fn begins_declaration(names: &TypedefNames, token: &Token) -> bool
 pub fn operand_in(
     alloc: Global,
     frame: Frame,
-    mut context: Context,
-    token: Token,
-) -> Result<Option<Reader>, NoMemory>
-    ensures { Gives result (code.on_operand (marks.push (frame_of frame) (stack_of context.stack)) context.names (token_of token)) }
+    context: &mut Context,
+    token: &Token,
+) -> Result<Option<Mode>, NoMemory>
+    ensures { Moves result context.new (code.on_operand (marks.push (frame_of frame) (stack_of context.old.stack)) context.old.names (token_of token.now)) }
 {
     context.stack.push(frame)?;
     on_operand(context, token)
@@ -55,10 +55,10 @@ pub fn operand_in(
 /// A declaration, or its beginning.
 pub fn declaration_on(
     alloc: Global,
-    context: Context,
-    token: Token,
-) -> Result<Option<Reader>, NoMemory>
-    ensures { Gives result (code.on_specifiers part.no_specifier (stack_of context.stack) context.names (token_of token)) }
+    context: &mut Context,
+    token: &Token,
+) -> Result<Option<Mode>, NoMemory>
+    ensures { Moves result context.new (code.on_specifiers part.no_specifier (stack_of context.old.stack) context.old.names (token_of token.now)) }
 {
     on_specifiers(alloc, no_specifier(alloc), context, token)
 }
@@ -66,10 +66,10 @@ pub fn declaration_on(
 /// Where a statement is wanted.
 pub fn on_statement(
     alloc: Global,
-    context: Context,
-    token: Token,
-) -> Result<Option<Reader>, NoMemory>
-    ensures { Gives result (code.on_statement (stack_of context.stack) context.names (token_of token)) }
+    context: &mut Context,
+    token: &Token,
+) -> Result<Option<Mode>, NoMemory>
+    ensures { Moves result context.new (code.on_statement (stack_of context.old.stack) context.old.names (token_of token.now)) }
 {
     let at = token.at;
     match token.kind {
@@ -77,23 +77,23 @@ pub fn on_statement(
             let items = no_item(alloc);
             pushed(Mode::Items, Frame::Block { at, items }, context)
         }
-        Kind::Semicolon => Ok(goes(Mode::AfterStatement(empty_part(at)), context)),
+        Kind::Semicolon => Ok(Some(Mode::AfterStatement(empty_part(at)))),
         Kind::If => {
             let head = Head::If;
-            Ok(goes(Mode::Condition { head, at }, context))
+            Ok(Some(Mode::Condition { head, at }))
         }
         Kind::While => {
             let head = Head::While;
-            Ok(goes(Mode::Condition { head, at }, context))
+            Ok(Some(Mode::Condition { head, at }))
         }
         Kind::Switch => {
             let head = Head::Switch;
-            Ok(goes(Mode::Condition { head, at }, context))
+            Ok(Some(Mode::Condition { head, at }))
         }
         Kind::Do => pushed(Mode::Statement, Frame::DoBody { at }, context),
-        Kind::For => Ok(goes(Mode::For { at }, context)),
-        Kind::Jump(word) => Ok(goes(Mode::Jump { at, word }, context)),
-        Kind::Return => Ok(goes(Mode::Return { at }, context)),
+        Kind::For => Ok(Some(Mode::For { at })),
+        Kind::Jump(word) => Ok(Some(Mode::Jump { at, word })),
+        Kind::Return => Ok(Some(Mode::Return { at })),
         _ => operand_in(alloc, Frame::Expression, context, token),
     }
 }
@@ -113,12 +113,12 @@ fn condition_frame(head: Head, at: u32) -> Frame
 pub fn on_condition(
     head: Head,
     at: u32,
-    context: Context,
-    token: Token,
-) -> Result<Option<Reader>, NoMemory>
-    ensures { Gives result (code.on_condition (head_of head) at (stack_of context.stack) context.names (token_of token)) }
+    context: &mut Context,
+    token: &Token,
+) -> Result<Option<Mode>, NoMemory>
+    ensures { Moves result context.new (code.on_condition (head_of head) at (stack_of context.old.stack) context.old.names (token_of token.now)) }
 {
-    if is_left_paren(&token) {
+    if is_left_paren(token) {
         operand_on(condition_frame(head, at), context)
     } else {
         Ok(None)
@@ -129,14 +129,15 @@ pub fn on_condition(
 pub fn on_do_condition(
     at: u32,
     body: StatementPart,
-    context: Context,
-    token: Token,
-) -> Result<Option<Reader>, NoMemory>
-    ensures { Gives result (code.on_do_condition at (statement_part_of body) (stack_of context.stack) context.names (token_of token)) }
+    context: &mut Context,
+    token: &Token,
+) -> Result<Option<Mode>, NoMemory>
+    ensures { Moves result context.new (code.on_do_condition at (statement_part_of body) (stack_of context.old.stack) context.old.names (token_of token.now)) }
 {
-    if is_left_paren(&token) {
+    if is_left_paren(token) {
         operand_on(Frame::Do { at, body }, context)
     } else {
+        drop(body);
         Ok(None)
     }
 }
@@ -147,36 +148,35 @@ pub fn on_after_do(
     at: u32,
     body: StatementPart,
     condition: ExprPart,
-    context: Context,
-    token: Token,
-) -> Result<Option<Reader>, NoMemory>
-    ensures { Gives result (code.on_after_do at (statement_part_of body) (expr_part_of condition) (stack_of context.stack) context.names (token_of token)) }
+    token: &Token,
+) -> Result<Option<Mode>, NoMemory>
+    ensures { (stack : marks.Stack) (names : List Identifier) → IfOk result (λ next. reached next stack names ≡ code.on_after_do at (statement_part_of body) (expr_part_of condition) stack names (token_of token.now)) }
 {
     let whole = do_part(alloc, at, body, condition)?;
-    Ok(end_if(is_semicolon(&token), Mode::AfterStatement(whole), context))
+    Ok(end_if(is_semicolon(token), Mode::AfterStatement(whole)))
 }
 
 /// Behind `for`.
-pub fn on_for(at: u32, context: Context, token: Token) -> Option<Reader>
-    ensures { option_map reader_of result ≡ code.on_for at (stack_of context.stack) context.names (token_of token) }
+pub fn on_for(at: u32, token: &Token) -> Option<Mode>
+    ensures { (stack : marks.Stack) (names : List Identifier) → reached result stack names ≡ code.on_for at stack names (token_of token.now) }
 {
-    end_if(is_left_paren(&token), Mode::ForFirst { at }, context)
+    end_if(is_left_paren(token), Mode::ForFirst { at })
 }
 
 /// Behind `for (`.
 pub fn on_for_first(
     alloc: Global,
     at: u32,
-    mut context: Context,
-    token: Token,
-) -> Result<Option<Reader>, NoMemory>
-    ensures { Gives result (code.on_for_first at (stack_of context.stack) context.names (token_of token)) }
+    context: &mut Context,
+    token: &Token,
+) -> Result<Option<Mode>, NoMemory>
+    ensures { Moves result context.new (code.on_for_first at (stack_of context.old.stack) context.old.names (token_of token.now)) }
 {
-    if is_semicolon(&token) {
+    if is_semicolon(token) {
         let first = nothing_part();
-        return Ok(goes(Mode::ForTest { at, first }, context));
+        return Ok(Some(Mode::ForTest { at, first }));
     }
-    if begins_declaration(&context.names, &token) {
+    if begins_declaration(&context.names, token) {
         context.stack.push(Frame::ForHead { at })?;
         return declaration_on(alloc, context, token);
     }
@@ -188,21 +188,18 @@ pub fn on_for_test(
     alloc: Global,
     at: u32,
     first: ForFirstPart,
-    context: Context,
-    token: Token,
-) -> Result<Option<Reader>, NoMemory>
-    ensures { Gives result (code.on_for_test at (for_first_part_of first) (stack_of context.stack) context.names (token_of token)) }
+    context: &mut Context,
+    token: &Token,
+) -> Result<Option<Mode>, NoMemory>
+    ensures { Moves result context.new (code.on_for_test at (for_first_part_of first) (stack_of context.old.stack) context.old.names (token_of token.now)) }
 {
-    if is_semicolon(&token) {
+    if is_semicolon(token) {
         let condition = no_expression();
-        return Ok(goes(
-            Mode::ForStep {
-                at,
-                first,
-                condition,
-            },
-            context,
-        ));
+        return Ok(Some(Mode::ForStep {
+            at,
+            first,
+            condition,
+        }));
     }
     operand_in(alloc, Frame::ForTest { at, first }, context, token)
 }
@@ -213,12 +210,12 @@ pub fn on_for_step(
     at: u32,
     first: ForFirstPart,
     condition: OptionalPart,
-    context: Context,
-    token: Token,
-) -> Result<Option<Reader>, NoMemory>
-    ensures { Gives result (code.on_for_step at (for_first_part_of first) (optional_part_of condition) (stack_of context.stack) context.names (token_of token)) }
+    context: &mut Context,
+    token: &Token,
+) -> Result<Option<Mode>, NoMemory>
+    ensures { Moves result context.new (code.on_for_step at (for_first_part_of first) (optional_part_of condition) (stack_of context.old.stack) context.old.names (token_of token.now)) }
 {
-    if is_right_paren(&token) {
+    if is_right_paren(token) {
         let body = Frame::ForBody {
             at,
             first,
@@ -239,38 +236,39 @@ pub fn on_for_step(
 pub fn on_switch_body(
     at: u32,
     selector: ExprPart,
-    context: Context,
-    token: Token,
-) -> Result<Option<Reader>, NoMemory>
-    ensures { Gives result (code.on_switch_body at (expr_part_of selector) (stack_of context.stack) context.names (token_of token)) }
+    context: &mut Context,
+    token: &Token,
+) -> Result<Option<Mode>, NoMemory>
+    ensures { Moves result context.new (code.on_switch_body at (expr_part_of selector) (stack_of context.old.stack) context.old.names (token_of token.now)) }
 {
-    if is_left_brace(&token) {
+    if is_left_brace(token) {
         pushed(Mode::Labels, Frame::Groups { at, selector }, context)
     } else {
+        drop(selector);
         Ok(None)
     }
 }
 
 /// Behind `break` or `continue`.
-pub fn on_jump(at: u32, word: JumpWord, context: Context, token: Token) -> Option<Reader>
-    ensures { option_map reader_of result ≡ code.on_jump at (jump_of word) (stack_of context.stack) context.names (token_of token) }
+pub fn on_jump(at: u32, word: JumpWord, token: &Token) -> Option<Mode>
+    ensures { (stack : marks.Stack) (names : List Identifier) → reached result stack names ≡ code.on_jump at (jump_of word) stack names (token_of token.now) }
 {
     let whole = jump_part(at, word);
-    end_if(is_semicolon(&token), Mode::AfterStatement(whole), context)
+    end_if(is_semicolon(token), Mode::AfterStatement(whole))
 }
 
 /// Behind `return`.
 pub fn on_return(
     alloc: Global,
     at: u32,
-    context: Context,
-    token: Token,
-) -> Result<Option<Reader>, NoMemory>
-    ensures { Gives result (code.on_return at (stack_of context.stack) context.names (token_of token)) }
+    context: &mut Context,
+    token: &Token,
+) -> Result<Option<Mode>, NoMemory>
+    ensures { Moves result context.new (code.on_return at (stack_of context.old.stack) context.old.names (token_of token.now)) }
 {
-    if is_semicolon(&token) {
+    if is_semicolon(token) {
         let whole = return_part(at, no_expression());
-        return Ok(goes(Mode::AfterStatement(whole), context));
+        return Ok(Some(Mode::AfterStatement(whole)));
     }
     operand_in(alloc, Frame::Return { at }, context, token)
 }

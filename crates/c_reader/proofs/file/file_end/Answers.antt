@@ -7,6 +7,6 @@ use Rattle.c_reader.proofs.file.file_end.Goals as goal
 
 pub returns : goal.returns
 returns c =
-    let stack = c.args.reader.context.stack in
-    let between : code.is_in_file (mode_of c.args.reader.mode) ≡ true = search rules in
+    let stack = c.args.context.stack in
+    let between : code.is_in_file (mode_of c.args.mode) ≡ true = search rules in
     (between, below_all (file_part_of stack.file) stack.entries)
