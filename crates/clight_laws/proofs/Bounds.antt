@@ -12,7 +12,7 @@ use Rattle.clight_scopes.specs.Scopes.{Scene}
 use Rattle.clight_operands.specs.Applied.{converted, scaled, sum_of, difference_of, applied}
 use Rattle.clight_operands.specs.Operands.{Callee, FromValue, FromCall, Deed, NoDeed, CallDeed, AssignDeed, UpdateDeed}
 use Rattle.clight_typing.specs.Statements.{Made, NothingMade, EvaluatedMade, DeedMade, BlockMade, BranchMade, WhileMade, DoMade, ForMade, SwitchMade, BreakMade, ContinueMade, ReturnMade, ReturnCallMade}
-use Rattle.clight_meaning.specs.Meaning.{Inner, placed, call_into, temp_of, assigned, updated_value, updated, deed_meant, meant}
+use Rattle.clight_placing.specs.Placing.{Inner, placed, call_into, temp_of, assigned, updated_value, updated, deed_meant, meant}
 use Rattle.clight_laws.proofs.Expressions.{some_height}
 use Rattle.clight_laws.proofs.Deeds.{IsCall, IsDeed}
 use Rattle.clight_laws.proofs.Made.{IsEffect, deed_extra}

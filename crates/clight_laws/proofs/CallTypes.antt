@@ -7,8 +7,9 @@ use Rattle.std.proofs.lemmas.Bool.Decides.{Decides-eqb}
 use Rattle.clight_scopes.specs.Scopes.{Entity, ObjectEntity, FunctionEntity, EnumeratorEntity, TypedefEntity, BuiltinEntity, FileName}
 use Rattle.clight_operands.specs.Operands.{Callee, Inside, Outside, Provided, FromValue, FromCall, Deed, NoDeed, CallDeed, AssignDeed, UpdateDeed}
 use Rattle.clight_typing.specs.Statements.{Made, NothingMade, EvaluatedMade, DeedMade, BlockMade, BranchMade, WhileMade, DoMade, ForMade, SwitchMade, BreakMade, ContinueMade, ReturnMade, ReturnCallMade, MadeList, NoMade, AndMade, MadeGroups, NoGroups, AndGroup}
-use Rattle.clight_meaning.specs.Files.{FunctionMade}
-use Rattle.clight_meaning.specs.Meaning.{added, callee_types, deed_types, made_types, list_types, group_types, entity_types, declared_types, body_types, number_of_type}
+use Rattle.clight_files.specs.Files.{FunctionMade}
+use Rattle.clight_meaning.specs.Meaning.{added, callee_types, deed_types, made_types, list_types, group_types, entity_types, declared_types, body_types}
+use Rattle.clight_placing.specs.Placing.{number_of_type}
 use Rattle.clight_laws.proofs.Listed.{IsCalleeListed, IsDeedListed, IsMadeListed, AreMadeListed, AreGroupsListed}
 use Rattle.clight_laws.proofs.Lists.{Each}
 

@@ -6,7 +6,7 @@ use Rattle.c_tree.specs.Trees.{FileTree}
 use Rattle.clight_types.specs.Types.{Types, Spelling, same_name, size_at}
 use Rattle.clight_scopes.specs.Scopes.{Entity, ObjectEntity, FunctionEntity, EnumeratorEntity, TypedefEntity, BuiltinEntity, FileName}
 use Rattle.clight_meaning.specs.Counts.{SizeOf, Passed, passed_if, size_passes, entity_passes, functions_pass, function_size, function_named, file_nodes, entity_bytes, global_bytes, passed_counts}
-use Rattle.clight_meaning.specs.Files.{FunctionMade, FileMade}
+use Rattle.clight_files.specs.Files.{FunctionMade, FileMade}
 use Rattle.clight_meaning.specs.Meaning.{meant_named, functions_meant, object_meant, objects_meant}
 use Rattle.clight_laws.proofs.Scenes.{IsApart, AreApart, name_is}
 use Rattle.clight_laws.proofs.Lists.{Each, total, sum_total, total_append}

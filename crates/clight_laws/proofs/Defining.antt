@@ -8,7 +8,7 @@ use Rattle.clight_types.specs.Declarators.{Built}
 use Rattle.clight_scopes.specs.Scopes.{Entity, ObjectEntity, FunctionEntity, EnumeratorEntity, TypedefEntity, BuiltinEntity, FileName, Scene, find_file, with_types, replaced}
 use Rattle.clight_calls.specs.Builtins.{is_builtin_name, builtin_named, builtin_type}
 use Rattle.clight_typing.specs.Typing.{no_clash, defined_twice, entity_of}
-use Rattle.clight_meaning.specs.Files.{function_with, is_type, option_type, builtin_clash, function_clash, function_known, function_judged, is_main, gives_narrow}
+use Rattle.clight_globals.specs.Globals.{function_with, is_type, option_type, builtin_clash, function_clash, function_known, function_judged, is_main, gives_narrow}
 use Rattle.clight_laws.proofs.Holding.{Holds, of_value, of_unless, not_both}
 use Rattle.clight_laws.proofs.TypeTables.{Grows}
 use Rattle.clight_laws.proofs.BuiltTypes.{IsNext}

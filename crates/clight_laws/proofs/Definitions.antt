@@ -9,7 +9,8 @@ use Rattle.clight_calls.specs.Calls.{parameters_at}
 use Rattle.clight_typing.specs.Typing.{declared_name, declared_at, name_or_empty, base_of, specified, declared}
 use Rattle.clight_typing.specs.Statements.{items_judged}
 use Rattle.clight_nodes.specs.Nodes.{items_nodes}
-use Rattle.clight_meaning.specs.Files.{FunctionMade, own_parameters, block_from, in_definition, in_body_of, behind_body, around_body, body_judged, definition_judged, function_judged, function_defined, function_clash, storage_in, is_static, is_main}
+use Rattle.clight_files.specs.Files.{FunctionMade, own_parameters, block_from, in_definition, in_body_of, behind_body, around_body, body_judged, definition_judged, function_defined}
+use Rattle.clight_globals.specs.Globals.{function_judged, function_clash, storage_in, is_static, is_main}
 use Rattle.c_shapes.specs.Shaped.{AreSpecifiers, IsDefinition, AreItems, IsShort}
 use Rattle.clight_laws.proofs.Holding.{Holds, of_value, of_fault, of_then, of_unless, holds_more}
 use Rattle.clight_laws.proofs.TypeTables.{Grows, grows_none, grows_twice, function_stays}

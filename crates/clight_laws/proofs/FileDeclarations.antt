@@ -7,7 +7,7 @@ use Rattle.clight_types.specs.Types.{Types, Spelling, same_name, is_complete, is
 use Rattle.clight_types.specs.Declarators.{Built, type_or}
 use Rattle.clight_scopes.specs.Scopes.{Entity, ObjectEntity, FunctionEntity, EnumeratorEntity, TypedefEntity, BuiltinEntity, FileName, Scene, find_file, with_types, with_file_name}
 use Rattle.clight_calls.specs.Builtins.{is_builtin_name}
-use Rattle.clight_meaning.specs.Files.{object_clash, function_clash, object_known, function_known, object_judged, function_judged, is_main, gives_narrow}
+use Rattle.clight_globals.specs.Globals.{object_clash, function_clash, object_known, function_known, object_judged, function_judged, is_main, gives_narrow}
 use Rattle.clight_laws.proofs.Holding.{Holds, of_value, of_unless, both_true}
 use Rattle.clight_laws.proofs.BuiltTypes.{IsNext}
 use Rattle.clight_laws.proofs.Scenes.{IsScene, IsGood, IsEntity, IsObjectEntity, IsFunctionEntity, IsDefinedEntity, AreFileNames, good_none, good_twice, types_good, named_good, name_is}

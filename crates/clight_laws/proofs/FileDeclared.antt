@@ -12,7 +12,7 @@ use Rattle.clight_types.specs.Judged.{and_then}
 use Rattle.clight_scopes.specs.Scopes.{TypedefEntity, FileName, Scene, find_file, with_types}
 use Rattle.clight_calls.specs.Builtins.{is_builtin_name}
 use Rattle.clight_typing.specs.Typing.{declared, declared_name, declared_at, name_or_empty}
-use Rattle.clight_meaning.specs.Files.{typedef_clash, typedef_declared, is_extern, is_static, is_typedef, function_in, object_judged, function_judged, object_initialized, refused_initializer, object_declared, name_declared, names_declared}
+use Rattle.clight_globals.specs.Globals.{typedef_clash, typedef_declared, is_extern, is_static, is_typedef, function_in, object_judged, function_judged, object_initialized, refused_initializer, object_declared, name_declared, names_declared}
 use Rattle.c_shapes.specs.Shaped.{IsInitializer, AreInits, IsShort, AreShort}
 use Rattle.clight_laws.proofs.Holding.{Holds, of_value, of_then, of_unless, holds_more}
 use Rattle.clight_laws.proofs.BuiltTypes.{IsNext, type_next}

@@ -8,7 +8,7 @@ use Rattle.clight_scopes.specs.Scopes.{Entity, ObjectEntity, FunctionEntity, Enu
 use Rattle.clight_operands.specs.Operands.{NoEffect, Typed, converts_to, is_struct_expression}
 use Rattle.clight_typing.specs.Typing.{typed, typed_all}
 use Rattle.clight_nodes.specs.Nodes.{expr_nodes, exprs_nodes}
-use Rattle.clight_meaning.specs.Files.{with_start, started, Filled, item_judged, slot_of, items_filled, shape_takes_list, list_judged, is_known, value_judged, constant_bytes, refused_initializer, object_initialized}
+use Rattle.clight_globals.specs.Globals.{with_start, started, Filled, item_judged, slot_of, items_filled, shape_takes_list, list_judged, is_known, value_judged, constant_bytes, refused_initializer, object_initialized}
 use Rattle.c_shapes.specs.Shaped.{IsInitializer, AreExprs}
 use Rattle.clight_laws.proofs.Holding.{Holds, of_value, of_fault, of_then, of_unless, holds_more}
 use Rattle.clight_laws.proofs.Scenes.{IsScene, IsGood, IsEntity, IsFunctionEntity, IsDefinedEntity, good_none}

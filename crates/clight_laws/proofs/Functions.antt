@@ -16,8 +16,9 @@ use Rattle.clight_scopes.specs.Scopes.{find_file}
 use Rattle.clight_calls.specs.Calls.{parameters_at}
 use Rattle.clight_nodes.specs.Nodes.{items_nodes, declarator_nodes}
 use Rattle.clight_meaning.specs.Counts.{SizeOf, definitions_of, defined_size, function_size, function_named}
-use Rattle.clight_meaning.specs.Files.{FunctionMade, FileMade}
-use Rattle.clight_meaning.specs.Meaning.{InTemp, InMemory, Inner, below, is_in_memory, memory_locals, taken_from, kept_from, all_meant, all_types, number_of_type, inner_of, function_meant}
+use Rattle.clight_files.specs.Files.{FunctionMade, FileMade}
+use Rattle.clight_meaning.specs.Meaning.{below, is_in_memory, memory_locals, taken_from, kept_from, all_types, inner_of, function_meant}
+use Rattle.clight_placing.specs.Placing.{InTemp, InMemory, Inner, all_meant, number_of_type}
 use Rattle.clight_laws.proofs.Scenes.{IsScene, IsFunctionOf}
 use Rattle.clight_laws.proofs.Expressions.{IsNamed}
 use Rattle.clight_laws.proofs.Deeds.{Takes}

@@ -11,7 +11,7 @@ use Rattle.clight_types.specs.WordOperators.{integer_cast}
 use Rattle.clight_scopes.specs.Scopes.{Scene}
 use Rattle.clight_operands.specs.Applied.{cast_by, converted, is_integer}
 use Rattle.clight_operands.specs.Operands.{Callee, Inside, Outside, Provided}
-use Rattle.clight_meaning.specs.Meaning.{Location, InTemp, InMemory, Inner, address_at, read_at, placed, call_into}
+use Rattle.clight_placing.specs.Placing.{Location, InTemp, InMemory, Inner, address_at, read_at, placed, call_into}
 use Rattle.clight_laws.proofs.Deeds.{list_weight, callee_weight, callee_height, IsCall}
 
 -- ## Placing makes nothing heavier

@@ -6,7 +6,7 @@ use Rattle.clight_lang.specs.WellMade.{expression_weight, numbers_in, statement_
 use Rattle.clight_scopes.specs.Scopes.{Scene}
 use Rattle.clight_operands.specs.Applied.{converted}
 use Rattle.clight_typing.specs.Statements.{Made, NothingMade, EvaluatedMade, DeedMade, BlockMade, BranchMade, WhileMade, DoMade, ForMade, SwitchMade, BreakMade, ContinueMade, ReturnMade, ReturnCallMade, MadeList, NoMade, AndMade, MadeGroups, NoGroups, AndGroup}
-use Rattle.clight_meaning.specs.Meaning.{Inner, placed, call_into, deed_meant, tested, count_statements, both, GroupsMeant, group_onto, meant, all_meant, groups_meant}
+use Rattle.clight_placing.specs.Placing.{Inner, placed, call_into, deed_meant, tested, count_statements, both, GroupsMeant, group_onto, meant, all_meant, groups_meant}
 use Rattle.clight_laws.proofs.Made.{IsCondition, IsMade, IsFirstMade, AreMade, AreGroupsMade, deed_extra}
 use Rattle.clight_laws.proofs.Meant.{placed_weight, placed_height, IsBounded, AreBounded, IsEffectBounded, call_bounds, converted_weight, converted_height}
 use Rattle.clight_laws.proofs.Bounds.{deed_bounded, effect_bounded}

@@ -4,7 +4,7 @@ use Rattle.c_tree.specs.Trees.{DeclaratorTree, unnamed, named, pointer_to, array
 use Rattle.clight_types.specs.Declarators.{ParameterOf, Part, PointerPart, built_parameter}
 use Rattle.clight_scopes.specs.Scopes.{Scene, opened, closed}
 use Rattle.clight_typing.specs.Typing.{declared_name, declared_at, base_of, specified, declared, parameters_judged, parameter_judged}
-use Rattle.clight_meaning.specs.Files.{own_parameters}
+use Rattle.clight_files.specs.Files.{own_parameters}
 use Rattle.c_shapes.specs.Shaped.{AreParameters, IsDefinition}
 use Rattle.clight_laws.proofs.Holding.{Holds, of_value, of_then}
 use Rattle.clight_laws.proofs.BuiltTypes.{AreParts, EndsIn, parameter_next, parameter_object}

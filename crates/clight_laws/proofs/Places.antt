@@ -10,8 +10,9 @@ use Rattle.clight_lang.specs.Placed.{IsAlignment}
 use Rattle.clight_types.specs.declared.kind.Value.{Value}
 use Rattle.clight_types.specs.Types.{Types, size_at, align_at, is_complete, value_at}
 use Rattle.clight_types.specs.WordOperators.{value_chunk}
-use Rattle.clight_meaning.specs.Files.{FunctionMade}
-use Rattle.clight_meaning.specs.Meaning.{Location, InTemp, InMemory, Inner, below, is_in_memory, memory_locals, taken_at, kept_at, taken_from, kept_from}
+use Rattle.clight_files.specs.Files.{FunctionMade}
+use Rattle.clight_placing.specs.Placing.{Location, InTemp, InMemory, Inner}
+use Rattle.clight_meaning.specs.Meaning.{below, is_in_memory, memory_locals, taken_at, kept_at, taken_from, kept_from}
 use Rattle.clight_laws.proofs.TypeTables.{AreTypes, complete_sized}
 use Rattle.clight_laws.proofs.Scenes.{AreComplete, length_push}
 use Rattle.clight_laws.proofs.Lists.{Each, each_append, each_more, Pairs, pairs_append, Has, has_left, has_right, total, sum_total, total_map, append_none}

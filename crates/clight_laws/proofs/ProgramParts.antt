@@ -8,7 +8,7 @@ use Rattle.clight_types.specs.Types.{Types, Spelling, same_name, shape_at, threa
 use Rattle.clight_scopes.specs.Scopes.{Entity, ObjectEntity, FunctionEntity, EnumeratorEntity, TypedefEntity, BuiltinEntity, FileName, find_file}
 use Rattle.clight_calls.specs.Calls.{parameters_at}
 use Rattle.clight_meaning.specs.Counts.{definitions_of, function_named}
-use Rattle.clight_meaning.specs.Files.{FunctionMade, FileMade}
+use Rattle.clight_files.specs.Files.{FunctionMade, FileMade}
 use Rattle.clight_meaning.specs.Meaning.{all_types, function_meant, meant_named, functions_meant, object_meant, objects_meant, external_meant, externals_meant}
 use Rattle.clight_laws.proofs.Scenes.{IsEntity, IsObject, IsObjectEntity, IsDefinitionOf, IsDefinedEntity, name_is}
 use Rattle.clight_laws.proofs.Lists.{Each, each_more, each_both, Pairs, Has}

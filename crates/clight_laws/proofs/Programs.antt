@@ -12,8 +12,10 @@ use Rattle.clight_types.specs.Types.{Types, FunctionShape, Spelling, same_name, 
 use Rattle.clight_scopes.specs.Scopes.{Entity, ObjectEntity, FunctionEntity, EnumeratorEntity, TypedefEntity, BuiltinEntity, FileName, find_file}
 use Rattle.clight_calls.specs.Calls.{parameters_at}
 use Rattle.clight_meaning.specs.Counts.{definitions_of, function_size, function_named, passed_counts}
-use Rattle.clight_meaning.specs.Files.{FunctionMade, FileMade, main_name, is_main, is_defined_entity, file_judged, file_faults}
-use Rattle.clight_meaning.specs.Meaning.{declared_types, all_types, number_of_type, function_meant, meant_named, functions_meant, object_meant, objects_meant, external_meant, externals_meant, main_of, program_with, program_meant}
+use Rattle.clight_files.specs.Files.{FunctionMade, FileMade, is_defined_entity, file_judged, file_faults}
+use Rattle.clight_globals.specs.Globals.{main_name, is_main}
+use Rattle.clight_placing.specs.Placing.{number_of_type}
+use Rattle.clight_meaning.specs.Meaning.{declared_types, all_types, function_meant, meant_named, functions_meant, object_meant, objects_meant, external_meant, externals_meant, main_of, program_with, program_meant}
 use Rattle.c_shapes.specs.Shaped.{IsShaped}
 use Rattle.clight_laws.specs.Laws.{Means}
 use Rattle.clight_laws.proofs.Holding.{not_both}

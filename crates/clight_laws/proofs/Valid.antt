@@ -10,7 +10,7 @@ use Rattle.clight_lang.specs.WellMade.{expression_weight, expressions_weight, re
 use Rattle.clight_types.specs.Types.{Spelling, same_name}
 use Rattle.clight_scopes.specs.Scopes.{Scene, find_file}
 use Rattle.clight_typing.specs.Statements.{MadeGroups, NoGroups, AndGroup}
-use Rattle.clight_meaning.specs.Meaning.{Location, InTemp, InMemory, Inner, count_statements, both, GroupsMeant, all_meant, groups_meant}
+use Rattle.clight_placing.specs.Placing.{Location, InTemp, InMemory, Inner, count_statements, both, GroupsMeant, all_meant, groups_meant}
 use Rattle.std.specs.Prelude.{AllPairs, ◌≢◌, slice_index_or}
 use Rattle.std.proofs.lemmas.List.Elements.{All-cons, All-nil}
 use Rattle.std.proofs.lemmas.List.Kept.{AllPairs-cons}

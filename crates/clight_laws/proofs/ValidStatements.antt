@@ -15,7 +15,7 @@ use Rattle.clight_scopes.specs.Scopes.{Scene}
 use Rattle.clight_operands.specs.Applied.{cast_by, converted, is_integer, applied}
 use Rattle.clight_operands.specs.Operands.{Callee, Inside, Outside, Provided, FromValue, FromCall, Deed, NoDeed, CallDeed, AssignDeed, UpdateDeed}
 use Rattle.clight_typing.specs.Statements.{Made, NothingMade, EvaluatedMade, DeedMade, BlockMade, BranchMade, WhileMade, DoMade, ForMade, SwitchMade, BreakMade, ContinueMade, ReturnMade, ReturnCallMade, MadeList, NoMade, AndMade, MadeGroups, NoGroups, AndGroup}
-use Rattle.clight_meaning.specs.Meaning.{Location, InTemp, InMemory, Inner, address_at, read_at, placed, call_into, temp_at, temp_of, assigned, updated_value, updated, deed_meant, tested, count_statements, both, meant, all_meant, groups_meant}
+use Rattle.clight_placing.specs.Placing.{Location, InTemp, InMemory, Inner, address_at, read_at, placed, call_into, temp_at, temp_of, assigned, updated_value, updated, deed_meant, tested, count_statements, both, meant, all_meant, groups_meant}
 use Rattle.clight_laws.proofs.Expressions.{IsValid}
 use Rattle.clight_laws.proofs.Deeds.{AreValid, IsCall, IsDeed}
 use Rattle.clight_laws.proofs.Made.{IsEffect, IsCondition, IsMade, IsFirstMade, AreMade, AreGroupsMade, deed_extra}

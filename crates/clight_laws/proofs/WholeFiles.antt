@@ -9,7 +9,8 @@ use Rattle.clight_scopes.specs.Scopes.{FileName, Scene, find_file, with_each, fi
 use Rattle.clight_typing.specs.Typing.{declared_name, name_or_empty, base_of, specified, entity_of}
 use Rattle.clight_nodes.specs.Nodes.{items_nodes}
 use Rattle.clight_meaning.specs.Counts.{DefinitionOf, definitions_of, function_named}
-use Rattle.clight_meaning.specs.Files.{FunctionMade, FileMade, function_defined, names_declared, storage_in, external_judged, externals_judged, defined_name, defined_names, is_settled, all_settled, file_judged, is_defined_entity, main_name}
+use Rattle.clight_files.specs.Files.{FunctionMade, FileMade, function_defined, external_judged, externals_judged, defined_name, defined_names, is_settled, all_settled, file_judged, is_defined_entity}
+use Rattle.clight_globals.specs.Globals.{names_declared, storage_in, main_name}
 use Rattle.c_shapes.specs.Shaped.{IsExternal, IsShaped}
 use Rattle.clight_laws.proofs.Holding.{Holds, of_value, of_then, of_unless, of_made, not_both}
 use Rattle.clight_laws.proofs.TypeTables.{AreTypes, IsShape}

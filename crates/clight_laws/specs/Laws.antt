@@ -7,7 +7,7 @@ use Rattle.c_shapes.specs.Shaped.{IsShaped}
 use Rattle.clight_lang.specs.Meaning.{ProgramOf}
 use Rattle.clight_lang.specs.WellMade.{IsWellMade}
 use Rattle.clight_types.specs.Judged.{value, made_of}
-use Rattle.clight_meaning.specs.Files.{FileMade, file_judged, file_faults}
+use Rattle.clight_files.specs.Files.{FileMade, file_judged, file_faults}
 use Rattle.clight_meaning.specs.Counts.{passed_counts}
 use Rattle.clight_meaning.specs.Meaning.{program_meant}
 

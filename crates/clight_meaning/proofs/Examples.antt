@@ -11,7 +11,7 @@ use Rattle.clight_lang.specs.Syntax.{Const, Temp, LocalAddr, GlobalAddr, Read, B
 use Rattle.clight_lang.specs.Meaning.{ProgramOf}
 use Rattle.clight_lang.specs.MainAlone.{returned}
 use Rattle.clight_types.specs.Judged.{made_of}
-use Rattle.clight_meaning.specs.Files.{file_judged, file_faults}
+use Rattle.clight_files.specs.Files.{file_judged, file_faults}
 use Rattle.clight_meaning.specs.Meaning.{program_meant}
 
 -- the number and the place of the first fault

@@ -7,7 +7,7 @@ use Rattle.clight_types.specs.Types.{Spelling, same_name}
 use Rattle.clight_calls.specs.Calls.{parameters_at}
 use Rattle.clight_nodes.specs.Nodes.{specifiers_nodes, declarator_nodes, decl_nodes, items_nodes, items_labels}
 use Rattle.clight_typing.specs.Typing.{declared_name, name_or_empty}
-use Rattle.clight_meaning.specs.Files.{FunctionMade, FileMade}
+use Rattle.clight_files.specs.Files.{FunctionMade, FileMade}
 
 -- ## Functions and files
 

@@ -1,0 +1,5 @@
+pub mod Joined
+pub mod Loops
+pub mod Numbers
+pub mod Places
+pub mod Switches

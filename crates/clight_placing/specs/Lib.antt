@@ -1,0 +1,4 @@
+pub mod InnerOf
+pub mod Listed
+pub mod Placing
+pub mod Switched
