@@ -12,12 +12,12 @@ ghost use Rattle.clight_made.specs.MadeOf.{made_of, made_list};
 ghost use Rattle.clight_statements.specs.StatementsOf.{head_judged, head_of};
 
 use crate::locals::decl_judged;
-use clight_made::Made;
 use crate::making::alone;
 use crate::meanings::statement_made;
 use c_tree::{Expr, ForFirst};
 use clight_expressions::typing::typed;
 use clight_lang::expression::Expr as Meaning;
+use clight_made::Made;
 use clight_operands::Allowed;
 use clight_operands::operands::{is_scalar_expression, is_struct_expression, read_of, value_of};
 use clight_scopes::Scene;

@@ -7,8 +7,8 @@ ghost use Rattle.clight_made.specs.MadeOf.{made_of, made_list};
 ghost use Rattle.clight_statements.specs.StatementsOf.{maybe_made, head_of};
 
 use crate::effects::ForHead;
-use clight_made::Made;
 use clight_lang::expression::Expr;
+use clight_made::Made;
 use clight_specifiers::built::push;
 use std::alloc::{AllocError, Global};
 use tso_words::NoMemory;

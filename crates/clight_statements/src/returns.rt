@@ -8,10 +8,10 @@ ghost use Rattle.clight_operands.specs.Shown.{typed_of};
 ghost use Rattle.clight_typing.specs.Statements.{value_returned, return_judged};
 ghost use Rattle.clight_made.specs.MadeOf.{made_of};
 
-use clight_made::Made;
 use crate::meanings::return_made;
 use c_tree::Expr;
 use clight_expressions::typing::typed;
+use clight_made::Made;
 use clight_operands::operands::{converts_to, is_struct_expression};
 use clight_operands::{Allowed, Typed};
 use clight_scopes::Scene;
