@@ -2,21 +2,23 @@
 """Compares `tsoc` with a second, independent reading of the same language and machine, on random files.
 
     python3 bench/agree.py compile PROGRAM SECOND TRIALS SEED [--built grammar|types|all] [--keep FOLDER]
+    python3 bench/agree.py source  PROGRAM SECOND TRIALS SEED [--keep FOLDER]
     python3 bench/agree.py target  PROGRAM SECOND TRIALS SEED [--keep FOLDER]
 
 PROGRAM is the built `tsoc`. SECOND is a folder with the second reading, which is no part of this repository: four
 scripts of Python 3 that write to standard output and end with the number of a status of `tsoc`, with its line.
 
     csource.py check FILE             a refusal of a C file with its place, or `accepted`
+    csource.py source FILE SCHED      the replay of a schedule on a C file
     xtarget.py target ASM SCHED       the replay of a schedule on an assembly text
-    gen_c.py program|mutant SEED      a random C file, or a broken one; with --threads, --effects
+    gen_c.py program|mutant SEED      a random C file, or a broken one; with --threads, --effects, --unsafe
     gen_c.py schedule SEED N LINES    a random schedule for N threads
     gen_asm.py text|broken SEED       a random assembly text, or a broken one
 
 `compile` compares the answers up to what is built: of the statuses below 'built' the line has to be the same, and
-where the second reading comes further the program has to say Done or `not built`. `target` compares every line
-and the status. Each difference is printed with the seed of its trial, and its files are kept in FOLDER; a trial on
-which the second reading takes too long is left out. The status is 1 where there was a difference.
+where the second reading comes further the program has to say Done or `not built`. `source` and `target` compare
+every line and the status. Each difference is printed with the seed of its trial, and its files are kept in FOLDER; a
+trial on which the second reading takes too long is left out. The status is 1 where there was a difference.
 
 The gate does not run this.
 """
@@ -171,20 +173,48 @@ def try_compile(options, second, folder, seed):
     return mine, other, agree and output.exists() == (mine[0] == DONE)
 
 
+def schedule_file(second, chance, seed):
+    """A random schedule, perhaps a spoiled one."""
+    lines = second.text("gen_c.py", "schedule", seed, chance.randrange(1, 5), chance.randrange(60))
+    return with_pieces(chance, lines, SPOILERS) if chance.random() < 0.1 else lines
+
+
+def played_file(second, chance, seed):
+    """A random C file for a schedule: most have a program, and of these some go wrong."""
+    shares = [("--threads", 0.6), ("--effects", 0.1), ("--unsafe", 0.4)]
+    options = [word for word, share in shares if chance.random() < share]
+    text = second.text("gen_c.py", "mutant" if chance.random() < 0.2 else "program", seed, *options)
+    return with_pieces(chance, text, GAPS + ODD) if chance.random() < 0.05 else text
+
+
+def try_source(options, second, folder, seed):
+    """The answers of both sides to a random C file and schedule, and whether they agree."""
+    chance = random.Random(seed)
+    source, schedule = folder / "in.c", folder / "in.sched"
+    source.write_bytes(played_file(second, chance, seed))
+    schedule.write_bytes(schedule_file(second, chance, seed))
+    other = second.run("csource.py", "source", source, schedule)
+    if other is None:
+        return None
+    mine = answer([options.program, "source", source, schedule])
+    return mine, other, mine == other
+
+
 def try_target(options, second, folder, seed):
     """The answers of both sides to a random assembly text and schedule, and whether they agree."""
     chance = random.Random(seed)
     text, schedule = folder / "in.s", folder / "in.sched"
     text.write_bytes(second.text("gen_asm.py", chance.choice(["text", "text", "broken"]), seed))
-    lines = second.text("gen_c.py", "schedule", seed, chance.randrange(1, 5), chance.randrange(60))
-    if chance.random() < 0.1:
-        lines = with_pieces(chance, lines, SPOILERS)
-    schedule.write_bytes(lines)
+    schedule.write_bytes(schedule_file(second, chance, seed))
     other = second.run("xtarget.py", "target", text, schedule)
     if other is None:
         return None
     mine = answer([options.program, "target", text, schedule])
     return mine, other, mine == other
+
+
+# The trial of each command.
+TRIALS = {"compile": try_compile, "source": try_source, "target": try_target}
 
 
 def shown(got):
@@ -204,7 +234,7 @@ def keep(folder, where, seed):
 def campaign(options):
     """Runs the trials, prints each difference, and gives the number of them."""
     second = Second(options.second)
-    trial = {"compile": try_compile, "target": try_target}[options.command]
+    trial = TRIALS[options.command]
     tally, differences, left_out = collections.Counter(), 0, 0
     for seed in range(options.seed, options.seed + options.trials):
         with tempfile.TemporaryDirectory() as name:
@@ -227,7 +257,7 @@ def campaign(options):
 
 def main():
     parser = argparse.ArgumentParser(description=__doc__, formatter_class=argparse.RawDescriptionHelpFormatter)
-    parser.add_argument("command", choices=["compile", "target"])
+    parser.add_argument("command", choices=list(TRIALS))
     parser.add_argument("program", type=pathlib.Path, help="the built tsoc")
     parser.add_argument("second", type=pathlib.Path, help="the folder of the second reading")
     parser.add_argument("trials", type=int)

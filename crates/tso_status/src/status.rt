@@ -1,6 +1,6 @@
 // The statuses, their numbers and the line that each prints.
 ghost use Rattle.std.specs.Prelude.{◌≡◌, ◌≤◌, ◌<◌, ◌+◌, ◌++◌, ◌∷◌, [], decimal, length};
-ghost use Rattle.tso_status.specs.Statuses.{code_of, line_of};
+ghost use Rattle.tso_status.specs.Statuses.{code_of, line_of, placed};
 
 use arrayvec::ArrayVec;
 use itoa::Buffer;
@@ -26,6 +26,10 @@ pub enum Status {
     Syntax { at: u32 },
     /// The token at this byte of the C file nests too deep.
     TooDeep { at: u32 },
+    /// The C file breaks this rule of types at this byte: the first that it breaks, in its order.
+    Types { rule: u8, at: u32 },
+    /// The C file breaks no rule, but passes this count at this byte: the first that it passes.
+    TooLarge { count: u8, at: u32 },
     /// Memory lacked.
     NoMemory,
     /// The assembly file is no assembly text: this line is its first bad one.
@@ -34,7 +38,7 @@ pub enum Status {
     BadSchedule { line: u64 },
     /// The step of this line of the schedule is not enabled: the first such line.
     NotARun { line: u64 },
-    /// The C file is of the grammar, but of no form that is compiled so far.
+    /// The C file is a program, but of no form that is compiled so far.
     NotBuilt,
 }
 
@@ -63,6 +67,23 @@ fn numbered(words: &[u8], number: u64) -> ArrayVec<u8, LINE_SIZE>
     line
 }
 
+// Some words, a number and the byte of a place as a line.
+fn placed(words: &[u8], which: u8, at: u32) -> ArrayVec<u8, LINE_SIZE>
+    requires { length words.now ≤ 20 }
+    ensures { result.items ≡ placed words.now which at }
+{
+    let mut digits = Buffer::new();
+    let mut line = ArrayVec::new();
+    line.try_extend_from_slice(words).unwrap();
+    line.try_extend_from_slice(digits.format(which).as_bytes())
+        .unwrap();
+    line.try_extend_from_slice(b", byte ").unwrap();
+    line.try_extend_from_slice(digits.format(at).as_bytes())
+        .unwrap();
+    line.push(b'\n');
+    line
+}
+
 impl Status {
     /// The number with which the program ends.
     pub fn code(&self) -> u8
@@ -76,6 +97,8 @@ impl Status {
             Status::TooLong => 4,
             Status::Syntax { .. } => 5,
             Status::TooDeep { .. } => 6,
+            Status::Types { .. } => 7,
+            Status::TooLarge { .. } => 8,
             Status::NoMemory => 9,
             Status::BadText { .. } => 10,
             Status::BadSchedule { .. } => 11,
@@ -97,6 +120,8 @@ impl Status {
             Status::TooLong => worded(b"too long"),
             Status::Syntax { at } => numbered(b"syntax: byte ", u64::from(*at)),
             Status::TooDeep { at } => numbered(b"too deep: byte ", u64::from(*at)),
+            Status::Types { rule, at } => placed(b"types: rule ", *rule, *at),
+            Status::TooLarge { count, at } => placed(b"too large: count ", *count, *at),
             Status::NoMemory => worded(b"no memory"),
             Status::BadText { line } => numbered(b"bad text: line ", *line),
             Status::BadSchedule { line } => numbered(b"bad schedule: line ", *line),

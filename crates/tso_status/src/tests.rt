@@ -21,6 +21,32 @@ fn numbers_and_lines(rt: HostRuntime) -> Result<(), Fail> {
             6,
             "too deep: byte 4294967295\n",
         ),
+        (
+            Status::Types { rule: 1, at: 0 },
+            7,
+            "types: rule 1, byte 0\n",
+        ),
+        (
+            Status::Types {
+                rule: 255,
+                at: u32::MAX,
+            },
+            7,
+            "types: rule 255, byte 4294967295\n",
+        ),
+        (
+            Status::TooLarge { count: 3, at: 4 },
+            8,
+            "too large: count 3, byte 4\n",
+        ),
+        (
+            Status::TooLarge {
+                count: 255,
+                at: u32::MAX,
+            },
+            8,
+            "too large: count 255, byte 4294967295\n",
+        ),
         (Status::NoMemory, 9, "no memory\n"),
         (Status::BadText { line: 3 }, 10, "bad text: line 3\n"),
         (

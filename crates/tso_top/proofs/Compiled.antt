@@ -1,45 +1,42 @@
 -- What `compile` answers, from how its file was read and what its bytes compile to.
 use Rattle.std.proofs.Common.{◌≡◌, ◌≢◌, ℕ, List, [], sym, ◌∙◌, ap, subst, Option, Some, None, Result, Ok, Err, inl, inr, Vec, Global}
-use Rattle.c_reader.specs.Reading.{Reads}
-use Rattle.c_reader.specs.declared.file.ReadFileRefusal.{ReadFileRefusal}
-use Rattle.c_reader.specs.declared.file.ReadFileRefusal.TheVariants as reader
-use Rattle.c_reading.specs.Answers.{tree}
-use Rattle.c_reading.specs.FileAnswers.{IsFileAnswer}
-use Rattle.c_tree.specs.Trees.{FileTree}
+use Rattle.clight_lang.specs.Meaning.{ProgramOf}
+use Rattle.clight_front.specs.Fronts.{HasProgram, Fronts}
+use Rattle.clight_front.specs.declared.fronts.FrontRefusal.{FrontRefusal}
+use Rattle.clight_front.specs.declared.fronts.FrontRefusal.TheVariants as front
 use Rattle.first_form.specs.Form.{TenTokens}
 use Rattle.tso_outside.specs.Views.{held, StoreView}
 use Rattle.tso_files.specs.declared.whole.ReadRefusal.{ReadRefusal}
 use Rattle.tso_files.specs.Whole.{IsWhole, ReadsWhole}
 use Rattle.tso_status.specs.declared.status.Status.{Status}
-use Rattle.tso_status.specs.declared.status.Status.TheVariants.{Done, Usage, ReadFault, WriteFault, Syntax, TooDeep, NoMemory, NotBuilt}
+use Rattle.tso_status.specs.declared.status.Status.TheVariants.{Done, Usage, ReadFault, WriteFault, Syntax, TooDeep, Types, TooLarge, NoMemory, NotBuilt}
 use Rattle.tso_status.specs.Statuses.{line_of}
 use Rattle.tso_top.specs.declared.compile.CompileRefusal.{CompileRefusal}
 use Rattle.tso_top.specs.declared.compile.CompileRefusal.TheVariants as failing
-use Rattle.tso_top.specs.Commands.{Compile, Compiling, IsNoFile, IsTooDeep, IsFile, IsBuilt, IsNotBuilt, source_limit}
+use Rattle.tso_top.specs.Commands.{Compile, Compiling, IsNoFile, IsTooDeep, IsFaulty, IsTooLarge, IsProgram, IsBuilt, IsNotBuilt, source_limit}
 use Rattle.tso_top.specs.Promise.{ByNoMemory}
 use Rattle.tso_top.specs.Compiles.{Compiles}
-use Rattle.tso_top.specs.Answers.{TextFor, CompilesTo, IsConstant, IsText, status_of, refused_status, unread_as}
+use Rattle.tso_top.specs.Answers.{TextFor, CompilesTo, IsConstant, IsText, status_of, refused_status}
 use Rattle.tso_top.proofs.Outcomes.{only_within, only_refused, free, refused_not_usage, refused_not_write, refused_not_done, refused_cause}
 use Rattle.tso_top.proofs.OneStatus.{exactly}
 
--- ## From the reader's answer to what the bytes lead to
+-- ## From the front end's answer to what the bytes lead to
 
-pub is_compiled : (bytes : List ℕ) (file : FileTree) (text : Vec ℕ Global) → IsFileAnswer bytes (tree file) → Compiles bytes text.items → CompilesTo bytes (Ok text)
-is_compiled bytes file text read c = (c, IsFile file Done [] read (IsBuilt c.word c.means))
+pub is_compiled : (bytes : List ℕ) (p : ProgramOf) (text : Vec ℕ Global) → HasProgram bytes p → ((n : ℕ) × TenTokens bytes n) × Compiles bytes text.items → CompilesTo bytes (Ok text)
+is_compiled bytes p text has c = (c.1, IsProgram p Done [] has (IsBuilt c.0.0 c.0.1))
 
-pub is_not_built : (bytes : List ℕ) (file : FileTree) → IsFileAnswer bytes (tree file) → ((n : ℕ) → TenTokens bytes n → ⊥) → CompilesTo bytes (Err failing.NotBuilt)
-is_not_built bytes file read none = IsFile file NotBuilt (line_of NotBuilt) read (IsNotBuilt none)
+pub is_not_built : (bytes : List ℕ) (p : ProgramOf) → HasProgram bytes p → ((n : ℕ) → TenTokens bytes n → ⊥) → CompilesTo bytes (Err failing.NotBuilt)
+is_not_built bytes p has none = IsProgram p NotBuilt (line_of NotBuilt) has (IsNotBuilt none)
 
-pub is_unread : (bytes : List ℕ) (r : ReadFileRefusal) (s : CompileRefusal) → s ≡ unread_as r → Reads bytes (Err r) → CompilesTo bytes (Err s)
-is_unread bytes r s is read = let P : CompileRefusal → Type 0 = λ t. CompilesTo bytes (Err t) in subst P (sym is) (by_cause r read)
-  where
-    by_cause : (r : ReadFileRefusal) → Reads bytes (Err r) → CompilesTo bytes (Err (unread_as r))
-    by_cause (reader.Syntax at) h = IsNoFile at h
-    by_cause (reader.TooDeep at) h = IsTooDeep at h
-    by_cause reader.NoMemory h = tt
+pub is_no_program : (bytes : List ℕ) (r : FrontRefusal) → Fronts bytes (Err r) → CompilesTo bytes (Err (failing.Front r))
+is_no_program bytes (front.Syntax at) h = IsNoFile at h
+is_no_program bytes (front.TooDeep at) h = IsTooDeep at h
+is_no_program bytes (front.Types rule at) h = IsFaulty rule at h
+is_no_program bytes (front.TooLarge count at) h = IsTooLarge count at h
+is_no_program bytes front.NoMemory h = tt
 
 -- the text of a file of the form
-pub text_is : (bytes : List ℕ) (o : Option (Vec ℕ Global)) (text : Vec ℕ Global) → o ≡ Some text → IsText bytes o → Compiles bytes text.items
+pub text_is : (bytes : List ℕ) (o : Option (Vec ℕ Global)) (text : Vec ℕ Global) → o ≡ Some text → IsText bytes o → ((n : ℕ) × TenTokens bytes n) × Compiles bytes text.items
 text_is bytes o text is h = let P : Option (Vec ℕ Global) → Type 0 = λ x. IsText bytes x in subst P is h
 
 pub no_text : (bytes : List ℕ) (o : Option (Vec ℕ Global)) → o ≡ None → IsText bytes o → (n : ℕ) → TenTokens bytes n → ⊥
@@ -93,10 +90,12 @@ module _ (i o : List ℕ) (u v : StoreView) where
   }
 
   failed : (bytes : Vec ℕ Global) (r : CompileRefusal) → ReadsWhole u v i source_limit (Ok bytes) → CompilesTo bytes.items (Err r) → TextFor (Compile i o) u v (Err (refused_status r))
-  failed bytes (failing.Syntax at) a h = asked bytes (Syntax at) a h (λ e. cc) (λ e. cc) (λ e. cc) (λ e. cc)
-  failed bytes (failing.TooDeep at) a h = asked bytes (TooDeep at) a h (λ e. cc) (λ e. cc) (λ e. cc) (λ e. cc)
+  failed bytes (failing.Front (front.Syntax at)) a h = asked bytes (Syntax at) a h (λ e. cc) (λ e. cc) (λ e. cc) (λ e. cc)
+  failed bytes (failing.Front (front.TooDeep at)) a h = asked bytes (TooDeep at) a h (λ e. cc) (λ e. cc) (λ e. cc) (λ e. cc)
+  failed bytes (failing.Front (front.Types rule at)) a h = asked bytes (Types rule at) a h (λ e. cc) (λ e. cc) (λ e. cc) (λ e. cc)
+  failed bytes (failing.Front (front.TooLarge count at)) a h = asked bytes (TooLarge count at) a h (λ e. cc) (λ e. cc) (λ e. cc) (λ e. cc)
+  failed bytes (failing.Front front.NoMemory) a h = compile_no_memory a
   failed bytes failing.NotBuilt a h = asked bytes NotBuilt a h (λ e. cc) (λ e. cc) (λ e. cc) (λ e. cc)
-  failed bytes failing.NoMemory a h = compile_no_memory a
 
   pub compile_failed : (bytes : Vec ℕ Global) (r : CompileRefusal) (s : Status) → s ≡ refused_status r → ReadsWhole u v i source_limit (Ok bytes) → CompilesTo bytes.items (Err r) → TextFor (Compile i o) u v (Err s)
   compile_failed bytes r s is a h = let P : Status → Type 0 = λ t. TextFor (Compile i o) u v (Err t) in subst P (sym is) (failed bytes r a h)

@@ -9,14 +9,15 @@ use Rattle.x86_text.specs.Text.{AsmOf}
 use Rattle.x86_text.specs.Printed.{printed}
 use Rattle.x86_machine.specs.X86Tso.{x86_machine}
 use Rattle.first_form.specs.Form.{TenTokens}
+use Rattle.clight_front.proofs.FormMeans.{form_program}
 use Rattle.first_pass.specs.Assembled.{parts_returning, returning}
 use Rattle.tso_top.specs.Compiles.{Compiles}
 
 pub compiles : (bytes text : List ℕ) (n : ℕ) → TenTokens bytes n → AsmOf text (parts_returning n) → text ≡ printed (parts_returning n) → EveryRunMatched (machine (language (returned n))) (x86_machine (returning n)) 1 → Compiles bytes text
 unfolding x86_machine
 compiles bytes text n means is form theorem = record {
-  word = n;
-  means = means;
+  program = returned n;
+  means = form_program bytes n means;
   asm = parts_returning n;
   is_assembly = is;
   is_printed = form;

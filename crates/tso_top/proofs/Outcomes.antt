@@ -4,7 +4,8 @@ use Rattle.std.proofs.lemmas.List.{append-nil}
 use Rattle.std.specs.Option.{ForSome}
 use Rattle.std.specs.Prelude.{MatchOption, ◌↔◌, ◌≤◌, length}
 use Rattle.first_form.specs.Form.{TenTokens}
-use Rattle.first_form.proofs.HasTree.{has_tree}
+use Rattle.clight_lang.specs.MainAlone.{returned}
+use Rattle.clight_front.proofs.FormMeans.{form_program}
 use Rattle.tso_outside.specs.Views.{Files, held, StoreView, SinkView, Rose, ReadCause}
 use Rattle.tso_outside.specs.declared.outside.Failed.{Failed}
 use Rattle.tso_status.specs.declared.status.Status.{Status}
@@ -12,7 +13,7 @@ use Rattle.tso_status.specs.declared.status.Status.TheVariants.{Done, Usage, Rea
 use Rattle.tso_files.specs.declared.whole.ReadRefusal.{ReadRefusal}
 use Rattle.tso_files.specs.declared.whole.ReadRefusal.TheVariants as refusal
 use Rattle.tso_status.specs.Statuses.{line_of}
-use Rattle.tso_top.specs.Commands.{Command, Compile, Target, Outcome, Reading, Missing, Passes, Within, ReadingBoth, IsFile, IsBuilt, Compiling, source_limit, text_limit}
+use Rattle.tso_top.specs.Commands.{Command, Compile, Source, Target, Outcome, Reading, Missing, Passes, Within, ReadingBoth, IsProgram, IsBuilt, Compiling, Sourcing, source_limit, text_limit}
 use Rattle.tso_top.specs.Replays.{Targeting}
 use Rattle.tso_top.specs.Promise.{Promise, Refuses, IsQuiet, IsFree, ByReadFault, ByWriteFault, ByNoMemory, Exactly, IsAsked, IsMissing, Prints, PutsAll}
 use Rattle.tso_files.specs.Whole.{IsWhole, ReadsWhole, PutsWhole}
@@ -42,10 +43,10 @@ module _ (limit : ℕ) (next : List ℕ → Status → List ℕ → Type 0) wher
   there o s lines (Within bytes status printed within rest) e none = cc
 
 -- of two that lead to Done the second is there too
-both_there : (limit : ℕ) (next : List ℕ → List ℕ → Status → List ℕ → Type 0) (o p : Option (List ℕ)) (s : Status) (lines : List ℕ) → ReadingBoth limit next o p s lines → s ≡ Done → p ≡ None → ⊥
-both_there limit next o p s lines Missing e none = cc
-both_there limit next o p s lines (Passes bytes passes) e none = cc
-both_there limit next o p s lines (Within bytes status printed within rest) e none = there limit (next bytes) p status printed rest e none
+both_there : (limit limit_of_second : ℕ) (next : List ℕ → List ℕ → Status → List ℕ → Type 0) (o p : Option (List ℕ)) (s : Status) (lines : List ℕ) → ReadingBoth limit limit_of_second next o p s lines → s ≡ Done → p ≡ None → ⊥
+both_there limit other next o p s lines Missing e none = cc
+both_there limit other next o p s lines (Passes bytes passes) e none = cc
+both_there limit other next o p s lines (Within bytes status printed within rest) e none = there other (next bytes) p status printed rest e none
 
 pub free : (c : Command) (files : Files) (s : Status) → IsFree s → Exactly c files s
 free c files s f = record { must = λ t lines outcome. inl f; only = inl f }
@@ -81,9 +82,13 @@ none_put lines a b none p =
 -- where the files ask for Done, none that the command reads is missing
 not_missing : (c : Command) (files : Files) (lines : List ℕ) → Outcome c files Done lines → IsMissing c files → ⊥
 not_missing (Compile i o) files lines outcome missing = elim missing [ inl none ↦ there source_limit Compiling (held files i) Done lines outcome refl none | inr more ↦ more ]
+not_missing (Source i j) files lines outcome missing = elim missing [
+  | inl none ↦ there source_limit (λ a s ls. Reading text_limit (Sourcing a) (held files j) s ls) (held files i) Done lines outcome refl none
+  | inr more ↦ elim more [ inl none ↦ both_there source_limit text_limit Sourcing (held files i) (held files j) Done lines outcome refl none | inr nothing ↦ nothing ]
+]
 not_missing (Target i j) files lines outcome missing = elim missing [
   | inl none ↦ there text_limit (λ a s ls. Reading text_limit (Targeting a) (held files j) s ls) (held files i) Done lines outcome refl none
-  | inr more ↦ elim more [ inl none ↦ both_there text_limit Targeting (held files i) (held files j) Done lines outcome refl none | inr nothing ↦ nothing ]
+  | inr more ↦ elim more [ inl none ↦ both_there text_limit text_limit Targeting (held files i) (held files j) Done lines outcome refl none | inr nothing ↦ nothing ]
 ]
 
 complete_free : (c : Command) (u w : StoreView) (files : Files) (s : Status) → IsFree s → u.files ≡ Some files → (IsMissing c files → ⊥) → (s ≡ ReadFault → ReadCause (IsMissing c) u w) → IsQuiet u.read_faults w.read_faults → (s ≡ WriteFault → ⊥) → (s ≡ Done) ⊎ (s ≡ NoMemory)
@@ -129,9 +134,8 @@ pub usage_exactly : (o : Option Command) (u w : StoreView) (a b : SinkView) (s :
 usage_exactly None u w a b s h = (λ e. refl, λ e. h.usage)
 usage_exactly (Some c) u w a b s h = (λ e. absurd (h.not_usage e), λ e. absurd (cc))
 
--- a file of the form is of the grammar, and asks for Done
+-- a file of the form has a program, and asks for Done
 pub form_asks : (files : Files) (input output bytes : List ℕ) (n : ℕ) → held files input ≡ Some bytes → length bytes ≤ source_limit → TenTokens bytes n → Outcome (Compile input output) files Done []
 form_asks files input output bytes n here short h =
-    let t = has_tree bytes n h in
     let P : Option (List ℕ) → Type 0 = λ o. Reading source_limit Compiling o Done [] in
-    subst P (sym here) (Within bytes Done [] short (IsFile t.0 Done [] t.1 (IsBuilt n h)))
+    subst P (sym here) (Within bytes Done [] short (IsProgram (returned n) Done [] (form_program bytes n h) (IsBuilt n h)))

@@ -155,22 +155,34 @@ fn files_of_the_form(rt: HostRuntime) -> Result<(), Fail> {
     Ok(())
 }
 
-// Files of the grammar that are not of the form.
-const OTHER_FILES: [&str; 14] = [
-    "",
-    "// nothing",
-    "int x;",
-    "int main(void) { return 7u; }",
-    "int main(void) { return 7l; }",
-    "int main(void) { return 07; }",
-    "int main(void) { return 0x7; }",
-    "int main(void) { return 2147483648; }",
-    "int main(void) { return -7; }",
-    "int main(void) { return; }",
-    "int main(void) { return7; }",
-    "int main() { return 7; }",
-    "int f(void) { return 7; }",
-    "int main(void) { return 7; } int x;",
+// Files of the grammar that are not of the form, and their statuses.
+const OTHER_FILES: [(&str, Status); 14] = [
+    ("", Status::Types { rule: 14, at: 0 }),
+    ("// nothing", Status::Types { rule: 14, at: 10 }),
+    ("int x;", Status::Types { rule: 14, at: 6 }),
+    ("int main(void) { return 7u; }", Status::NotBuilt),
+    ("int main(void) { return 7l; }", Status::NotBuilt),
+    ("int main(void) { return 07; }", Status::NotBuilt),
+    ("int main(void) { return 0x7; }", Status::NotBuilt),
+    (
+        "int main(void) { return 2147483648; }",
+        Status::Types { rule: 3, at: 24 },
+    ),
+    ("int main(void) { return -7; }", Status::NotBuilt),
+    (
+        "int main(void) { return; }",
+        Status::Types { rule: 21, at: 17 },
+    ),
+    (
+        "int main(void) { return7; }",
+        Status::Types { rule: 4, at: 17 },
+    ),
+    ("int main() { return 7; }", Status::NotBuilt),
+    (
+        "int f(void) { return 7; }",
+        Status::Types { rule: 14, at: 25 },
+    ),
+    ("int main(void) { return 7; } int x;", Status::NotBuilt),
 ];
 
 // Files that are of no grammar, with the byte of the fault.
@@ -195,9 +207,9 @@ const NO_FILES: [(&str, u32); 15] = [
 #[test]
 fn files_of_another_form(rt: HostRuntime) -> Result<(), Fail> {
     let alloc = rt.alloc();
-    for text in OTHER_FILES {
+    for (text, expected) in OTHER_FILES {
         let (status, written) = compiled(alloc, text.as_bytes())?;
-        assert_eq!(rt; status, Status::NotBuilt, "{text}");
+        assert_eq!(rt; status, expected, "{text}");
         assert_eq!(rt; written.len(), 0, "{text}");
     }
     for (text, at) in NO_FILES {
@@ -301,7 +313,14 @@ fn the_limit_of_a_file(rt: HostRuntime) -> Result<(), Fail> {
     let alloc = rt.alloc();
     let list = words(alloc, &["compile", "a.c", "a.s"])?;
     for (size, status, line) in [
-        (4_194_304usize, Status::NotBuilt, "not built\n"),
+        (
+            4_194_304usize,
+            Status::Types {
+                rule: 14,
+                at: 4_194_304,
+            },
+            "types: rule 14, byte 4194304\n",
+        ),
         (4_194_305, Status::TooLong, "too long\n"),
     ] {
         let blanks = vec![in alloc; b' '; size]?;
@@ -373,7 +392,7 @@ fn words_that_are_no_command(rt: HostRuntime) -> Result<(), Fail> {
         &["Compile", "a.c", "a.s"],
         &["target", "a.s"],
         &["target", "a.s", "a.sched", "more"],
-        &["source", "a.c", "a.sched"],
+        &["source", "a.c"],
     ];
     for list in all {
         let mut out = MemSink::made(alloc, 100, Vec::new(alloc));

@@ -6,4 +6,4 @@ pub returns-in_ok-text_returning-in-Some : goal.returns-in_ok-text_returning-in-
 returns-in_ok-text_returning-in-Some c =
     let means = constant_is c.args.bytes.now c.in_ok-number.field-0 c.in-Some.number c.in-Some.is c.in_ok-number.ensures in
     let text = c.in_ok-text_returning-in-Some in
-    compiles c.args.bytes.now text.field-0.items c.in-Some.number means text.ensures.text text.ensures.form text.ensures.theorem
+    ((c.in-Some.number, means), compiles c.args.bytes.now text.field-0.items c.in-Some.number means text.ensures.text text.ensures.form text.ensures.theorem)

@@ -1,0 +1,11 @@
+pub mod Walks
+pub mod Numbered
+pub mod Marks
+pub mod Marking
+pub mod Steps
+pub mod Placed
+pub mod Numbering
+pub mod Order
+pub mod Outer
+pub mod Whole
+pub mod Checked

@@ -1,0 +1,4 @@
+pub mod Locals
+pub mod ProgramsOf
+pub mod Refusals
+pub mod Answers
