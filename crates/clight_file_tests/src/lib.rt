@@ -12,4 +12,6 @@ mod counts;
 #[cfg(test)]
 mod programs;
 #[cfg(test)]
-mod refused;
+mod refused_declarations;
+#[cfg(test)]
+mod refused_expressions;
